@@ -21,7 +21,7 @@ use Rattle.trace_text.specs.Forms.{line_of}
 use Rattle.trace_text.specs.Reading.{is_line_feed, is_skipped, parts_of, builder_with, builder_after, parsed_from, parsed, judged, judged_by, ended, trace_reading}
 use Rattle.trace_text.specs.Texts.{trace_values, may_follow, IsOneLine, ended_lines, said_by, WriteTrace, BeginTrace, IsTraceText, IsBadNext, IsBadEnd, IsBadLine, IsTraceReading}
 use Rattle.trace_text.proofs.TextLines.{good_line, bad_line, open_line, text_ends}
-use Rattle.trace_text.proofs.TraceValues.{some_is, found_in, so_far, run, run_both, run_adds, Completed, completed, trace_run, is_told, run_told, told_follows}
+use Rattle.trace_text.proofs.TraceValues.{some_is, found_in, so_far, run, run_both, run_adds, Completed, completed, trace_run, is_in_order, run_in_order, order_follows}
 
 abbrev Lines : Type 0
 Lines = List (List ℕ)
@@ -100,7 +100,7 @@ text_parsed text end lines rest is are runs = read_as text ∙ ap (λ t. parsed_
 -- lines that are read begin a trace
 begins : (lines : Lines) (end : TraceBuilder) → run Empty (said_by lines) ≡ Some end → BeginTrace lines
 begins lines end runs =
-    let whole : Completed end = completed end (run_told Empty (said_by lines) end refl runs) in
+    let whole : Completed end = completed end (run_in_order Empty (said_by lines) end refl runs) in
     record {
       trace = whole.trace;
       follow = whole.follow;
@@ -128,16 +128,16 @@ record IsWhole (end : TraceBuilder) : Type 0 where
   judges : (number : ℕ) → parsed number end ≡ judged_by trace.config trace.events
 
 -- or it is no whole one
-whole_or_not : (end : TraceBuilder) → is_told end ≡ true → ((number : ℕ) → parsed number end ≡ Err (fault.BadLine number)) ⊎ IsWhole end
-whole_or_not Empty told = inl (λ number. refl)
-whole_or_not (Points adapter outputs inputs) told = inl (λ number. refl)
-whole_or_not (Configured adapter outputs inputs point) told = inl (λ number. refl)
-whole_or_not (Stated front) told = inl (λ number. refl)
-whole_or_not (Objects front objects) told = inl (λ number. refl)
-whole_or_not (Counted front objects block) told = inl (λ number. refl)
-whole_or_not (Slots scanner newer terms slots) told = inr (record { trace = record { config = config.Scanner (scanner_with scanner newer terms slots); events = [] }; follow = refl; all = sym (append-nil _); judges = λ number. refl })
-whole_or_not (Events made_of entries None) told = inr (record { trace = record { config = made_of; events = entries ++ [] }; follow = told_follows made_of entries None told; all = refl; judges = λ number. refl })
-whole_or_not (Events made_of entries (Some last)) told = inr (record { trace = record { config = made_of; events = entries ++ last ∷ [] }; follow = told_follows made_of entries (Some last) told; all = refl; judges = λ number. refl })
+whole_or_not : (end : TraceBuilder) → is_in_order end ≡ true → ((number : ℕ) → parsed number end ≡ Err (fault.BadLine number)) ⊎ IsWhole end
+whole_or_not Empty ordered = inl (λ number. refl)
+whole_or_not (Points adapter outputs inputs) ordered = inl (λ number. refl)
+whole_or_not (Configured adapter outputs inputs point) ordered = inl (λ number. refl)
+whole_or_not (Stated front) ordered = inl (λ number. refl)
+whole_or_not (Objects front objects) ordered = inl (λ number. refl)
+whole_or_not (Counted front objects block) ordered = inl (λ number. refl)
+whole_or_not (Slots scanner newer terms slots) ordered = inr (record { trace = record { config = config.Scanner (scanner_with scanner newer terms slots); events = [] }; follow = refl; all = sym (append-nil _); judges = λ number. refl })
+whole_or_not (Events made_of entries None) ordered = inr (record { trace = record { config = made_of; events = entries ++ [] }; follow = order_follows made_of entries None ordered; all = refl; judges = λ number. refl })
+whole_or_not (Events made_of entries (Some last)) ordered = inr (record { trace = record { config = made_of; events = entries ++ last ∷ [] }; follow = order_follows made_of entries (Some last) ordered; all = refl; judges = λ number. refl })
 
 -- a trace that is written is judged by its profile
 written_judged : (text : List ℕ) (trace : Trace) → IsTraceText text trace → trace_reading text ≡ judged_by trace.config trace.events
@@ -172,7 +172,7 @@ open_or_ended text number (byte ∷ rest) end read one why = open_line _ number 
 
 ends_badly : (number : ℕ) (before : Lines) (rest : List ℕ) (end : TraceBuilder) → run Empty (said_by before) ≡ Some end → (rest ≢ []) ⊎ ((trace : Trace) → ¬ (WriteTrace before trace)) → (parsed number end ≡ Err (fault.BadLine number)) ⊎ (rest ≢ [])
 ends_badly number before rest end runs (inl some) = inr some
-ends_badly number before rest end runs (inr none) = go (whole_or_not end (run_told Empty (said_by before) end refl runs))
+ends_badly number before rest end runs (inr none) = go (whole_or_not end (run_in_order Empty (said_by before) end refl runs))
   where
     go : ((number : ℕ) → parsed number end ≡ Err (fault.BadLine number)) ⊎ IsWhole end → (parsed number end ≡ Err (fault.BadLine number)) ⊎ (rest ≢ [])
     go (inl bad) = inl (bad number)
@@ -272,7 +272,7 @@ end_reading text before (byte ∷ rest) end is are one runs = record {
   where
     some_byte : (byte : ℕ) (rest : List ℕ) → byte ∷ rest ≢ []
     some_byte byte rest none = absurd (cc)
-end_reading text before [] end is are one runs = go (whole_or_not end (run_told Empty (said_by before) end refl runs))
+end_reading text before [] end is are one runs = go (whole_or_not end (run_in_order Empty (said_by before) end refl runs))
   where
     go : ((number : ℕ) → parsed number end ≡ Err (fault.BadLine number)) ⊎ IsWhole end → IsTraceReading text (parsed (1 + length before) end)
     go (inl bad) = subst (IsTraceReading text) (sym (bad (1 + length before))) (record {

@@ -413,9 +413,9 @@ has_begun slots [] = false
 has_begun slots (first ∷ entries) = is_none (early_block slots first.0)
 
 -- what was read so far has its events behind its profile
-abbrev pub is_told : TraceBuilder → Bool
-is_told (Events (config.Scanner profile) entries last) = has_begun profile.slots (entries ++ option_to_list last)
-is_told other = true
+abbrev pub is_in_order : TraceBuilder → Bool
+is_in_order (Events (config.Scanner profile) entries last) = has_begun profile.slots (entries ++ option_to_list last)
+is_in_order other = true
 
 begun_more : (slots : List SlotConfig) (entries more : List Entry) → has_begun slots entries ≡ true → has_begun slots (entries ++ more) ≡ true
 begun_more slots [] more begun = absurd (cc)
@@ -429,9 +429,9 @@ begun_begins : (slots : List SlotConfig) (entries : List Entry) → has_begun sl
 begun_begins slots [] begun = refl
 begun_begins slots (first ∷ entries) begun = begun
 
-pub told_follows : (made_of : Config) (entries : List Entry) (last : Option Entry) → is_told (Events made_of entries last) ≡ true → may_follow made_of (entries ++ option_to_list last) ≡ true
-told_follows (config.Adapter profile) entries last told = refl
-told_follows (config.Scanner profile) entries last told = begun_begins profile.slots (entries ++ option_to_list last) told
+pub order_follows : (made_of : Config) (entries : List Entry) (last : Option Entry) → is_in_order (Events made_of entries last) ≡ true → may_follow made_of (entries ++ option_to_list last) ≡ true
+order_follows (config.Adapter profile) entries last ordered = refl
+order_follows (config.Scanner profile) entries last ordered = begun_begins profile.slots (entries ++ option_to_list last) ordered
 
 -- WHAT IS READ CAN BE COMPLETED
 
@@ -461,15 +461,15 @@ by_points builder profile is = record {
   is = sym (added builder (line.Heartbeat no_points) (Events (config.Adapter profile) [] None) is);
 }
 
-pub completed : (builder : TraceBuilder) → is_told builder ≡ true → Completed builder
-completed Empty told = record { trace = record { config = config.Scanner no_scanner; events = [] }; follow = refl; more = config_values (config.Scanner no_scanner) ++ []; is = refl }
-completed (Points adapter outputs inputs) told = by_points (Points adapter outputs inputs) (profile_with adapter outputs inputs None None no_limits [] None no_points) refl
-completed (Configured adapter outputs inputs point) told = by_points (Configured adapter outputs inputs point) (profile_with adapter outputs inputs (Some point) None no_limits [] None no_points) refl
-completed (Stated front) told = by_points (Stated front) (whole_of front [] None no_points) refl
-completed (Objects front objects) told = by_points (Objects front objects) (whole_of front objects None no_points) refl
-completed (Counted front objects block) told = by_points (Counted front objects block) (whole_of front objects (Some block) no_points) refl
-completed (Slots scanner newer terms slots) told = record { trace = record { config = config.Scanner (scanner_with scanner newer terms slots); events = [] }; follow = refl; more = []; is = refl }
-completed (Events made_of entries last) told = record { trace = record { config = made_of; events = entries ++ option_to_list last }; follow = told_follows made_of entries last told; more = []; is = append-nil _ }
+pub completed : (builder : TraceBuilder) → is_in_order builder ≡ true → Completed builder
+completed Empty ordered = record { trace = record { config = config.Scanner no_scanner; events = [] }; follow = refl; more = config_values (config.Scanner no_scanner) ++ []; is = refl }
+completed (Points adapter outputs inputs) ordered = by_points (Points adapter outputs inputs) (profile_with adapter outputs inputs None None no_limits [] None no_points) refl
+completed (Configured adapter outputs inputs point) ordered = by_points (Configured adapter outputs inputs point) (profile_with adapter outputs inputs (Some point) None no_limits [] None no_points) refl
+completed (Stated front) ordered = by_points (Stated front) (whole_of front [] None no_points) refl
+completed (Objects front objects) ordered = by_points (Objects front objects) (whole_of front objects None no_points) refl
+completed (Counted front objects block) ordered = by_points (Counted front objects block) (whole_of front objects (Some block) no_points) refl
+completed (Slots scanner newer terms slots) ordered = record { trace = record { config = config.Scanner (scanner_with scanner newer terms slots); events = [] }; follow = refl; more = []; is = refl }
+completed (Events made_of entries last) ordered = record { trace = record { config = made_of; events = entries ++ option_to_list last }; follow = order_follows made_of entries last ordered; more = []; is = append-nil _ }
 
 -- THE LINES OF A TRACE LEAD TO IT
 
@@ -682,86 +682,86 @@ trace_run (config.Scanner profile) ((event, recorded) ∷ events) follow =
 
 -- WHAT IS READ CAN BE WRITTEN
 
-abbrev Told : Option TraceBuilder → Type 0
-Told said = IfSome said (λ next. is_told next ≡ true)
+abbrev InOrder : Option TraceBuilder → Type 0
+InOrder said = IfSome said (λ next. is_in_order next ≡ true)
 
-told_if : (test : Bool) (next : TraceBuilder) → is_told next ≡ true → Told (cond test (Some next) None)
-told_if true next told = told
-told_if false next told = tt
+order_if : (test : Bool) (next : TraceBuilder) → is_in_order next ≡ true → InOrder (cond test (Some next) None)
+order_if true next ordered = ordered
+order_if false next ordered = tt
 
-told_map : {A : Type 0} (f : A → TraceBuilder) (value : Option A) → ((a : A) → is_told (f a) ≡ true) → Told (option_map f value)
-told_map f None told = tt
-told_map f (Some a) told = told a
+order_map : {A : Type 0} (f : A → TraceBuilder) (value : Option A) → ((a : A) → is_in_order (f a) ≡ true) → InOrder (option_map f value)
+order_map f None ordered = tt
+order_map f (Some a) ordered = ordered a
 
-told_if_map : {A : Type 0} (test : Bool) (f : A → TraceBuilder) (value : Option A) → ((a : A) → is_told (f a) ≡ true) → Told (cond test (option_map f value) None)
-told_if_map true f value told = told_map f value told
-told_if_map false f value told = tt
+order_if_map : {A : Type 0} (test : Bool) (f : A → TraceBuilder) (value : Option A) → ((a : A) → is_in_order (f a) ≡ true) → InOrder (cond test (option_map f value) None)
+order_if_map true f value ordered = order_map f value ordered
+order_if_map false f value ordered = tt
 
-told_stated : (front : ProfileFront) (given : LimitLine) → Told (with_stated front given)
-told_stated front given = told_map (λ (more : MakerLimits). Stated (record front { limits = more })) (with_limit front.limits given) (λ more. refl)
+order_stated : (front : ProfileFront) (given : LimitLine) → InOrder (with_stated front given)
+order_stated front given = order_map (λ (more : MakerLimits). Stated (record front { limits = more })) (with_limit front.limits given) (λ more. refl)
 
-told_ids : (front : ProfileFront) (objects : List ℕ) (happens : Event) → Told (with_ids front objects happens)
-told_ids front objects happens = told_map (λ (block : IdBlock). Counted front objects block) (given_block happens) (λ block. refl)
+order_ids : (front : ProfileFront) (objects : List ℕ) (happens : Event) → InOrder (with_ids front objects happens)
+order_ids front objects happens = order_map (λ (block : IdBlock). Counted front objects block) (given_block happens) (λ block. refl)
 
-told_first : (scanner : ScannerLine) (newer : Option ℕ) (terms : ScannerTerms) (slots : List SlotConfig) (happens : Event) (early : Option IdBlock) → early_block slots happens ≡ early → Told (with_event scanner newer terms slots happens early)
-told_first scanner newer terms slots happens (Some block) early = told_if (is_none terms.ids) (Slots scanner newer (record terms { ids = Some block }) slots) refl
-told_first scanner newer terms slots happens None early = ap is_none early
+order_first : (scanner : ScannerLine) (newer : Option ℕ) (terms : ScannerTerms) (slots : List SlotConfig) (happens : Event) (early : Option IdBlock) → early_block slots happens ≡ early → InOrder (with_event scanner newer terms slots happens early)
+order_first scanner newer terms slots happens (Some block) early = order_if (is_none terms.ids) (Slots scanner newer (record terms { ids = Some block }) slots) refl
+order_first scanner newer terms slots happens None early = ap is_none early
 
-told_event : (made_of : Config) (entries : List Entry) (last : Option Entry) (happens : Event) → is_told (Events made_of entries last) ≡ true → is_told (Events made_of (entries ++ option_to_list last) (Some (happens, None))) ≡ true
-told_event (config.Adapter profile) entries last happens told = refl
-told_event (config.Scanner profile) entries last happens told = begun_more profile.slots (entries ++ option_to_list last) ((happens, None) ∷ []) told
+order_event : (made_of : Config) (entries : List Entry) (last : Option Entry) (happens : Event) → is_in_order (Events made_of entries last) ≡ true → is_in_order (Events made_of (entries ++ option_to_list last) (Some (happens, None))) ≡ true
+order_event (config.Adapter profile) entries last happens ordered = refl
+order_event (config.Scanner profile) entries last happens ordered = begun_more profile.slots (entries ++ option_to_list last) ((happens, None) ∷ []) ordered
 
-told_recorded : (made_of : Config) (entries : List Entry) (last : Entry) (outcome : Outcome) → is_told (Events made_of entries (Some last)) ≡ true → is_told (Events made_of entries (Some (last.0, Some outcome))) ≡ true
-told_recorded (config.Adapter profile) entries last outcome told = refl
-told_recorded (config.Scanner profile) entries last outcome told = begun_same profile.slots entries last (last.0, Some outcome) refl told
+order_recorded : (made_of : Config) (entries : List Entry) (last : Entry) (outcome : Outcome) → is_in_order (Events made_of entries (Some last)) ≡ true → is_in_order (Events made_of entries (Some (last.0, Some outcome))) ≡ true
+order_recorded (config.Adapter profile) entries last outcome ordered = refl
+order_recorded (config.Scanner profile) entries last outcome ordered = begun_same profile.slots entries last (last.0, Some outcome) refl ordered
 
-told_newer : (scanner : ScannerLine) (newer : Option ℕ) (terms : ScannerTerms) (slots : List SlotConfig) (value : LimitLine) → Told (with_newer scanner newer terms slots value)
-told_newer scanner newer terms slots (limit.Newer within) = told_if (is_none newer && (not terms.tidy && (none_stated terms && eqb (length slots) 0))) (Slots scanner (Some within) terms slots) refl
-told_newer scanner newer terms slots other = tt
+order_newer : (scanner : ScannerLine) (newer : Option ℕ) (terms : ScannerTerms) (slots : List SlotConfig) (value : LimitLine) → InOrder (with_newer scanner newer terms slots value)
+order_newer scanner newer terms slots (limit.Newer within) = order_if (is_none newer && (not terms.tidy && (none_stated terms && eqb (length slots) 0))) (Slots scanner (Some within) terms slots) refl
+order_newer scanner newer terms slots other = tt
 
 -- a line that is allowed keeps it so
-told_on : (builder : TraceBuilder) (value : TraceLine) → is_told builder ≡ true → Told (builder_with builder value)
-told_on Empty (line.Adapter value) told = refl
-told_on Empty (line.Scanner value) told = refl
-told_on (Points adapter outputs inputs) (line.Output value) told = told_if (eqb (length inputs) 0) (Points adapter (outputs ++ value ∷ []) inputs) refl
-told_on (Points adapter outputs inputs) (line.Input value) told = refl
-told_on (Points adapter outputs inputs) (line.Config value) told = refl
-told_on (Points adapter outputs inputs) (line.Description value) told = refl
-told_on (Points adapter outputs inputs) (line.Limit value) told = told_stated (front_of adapter outputs inputs None None) value
-told_on (Points adapter outputs inputs) (line.Object value) told = refl
-told_on (Points adapter outputs inputs) (line.Event value) told = told_ids (front_of adapter outputs inputs None None) [] value
-told_on (Points adapter outputs inputs) (line.Heartbeat value) told = refl
-told_on (Configured adapter outputs inputs point) (line.Description value) told = refl
-told_on (Configured adapter outputs inputs point) (line.Limit value) told = told_stated (front_of adapter outputs inputs (Some point) None) value
-told_on (Configured adapter outputs inputs point) (line.Object value) told = refl
-told_on (Configured adapter outputs inputs point) (line.Event value) told = told_ids (front_of adapter outputs inputs (Some point) None) [] value
-told_on (Configured adapter outputs inputs point) (line.Heartbeat value) told = refl
-told_on (Stated front) (line.Limit value) told = told_stated front value
-told_on (Stated front) (line.Object value) told = refl
-told_on (Stated front) (line.Event value) told = told_ids front [] value
-told_on (Stated front) (line.Heartbeat value) told = refl
-told_on (Objects front objects) (line.Object value) told = refl
-told_on (Objects front objects) (line.Event value) told = told_ids front objects value
-told_on (Objects front objects) (line.Heartbeat value) told = refl
-told_on (Counted front objects block) (line.Heartbeat value) told = refl
-told_on (Slots scanner newer terms slots) (line.Limit value) told = told_newer scanner newer terms slots value
-told_on (Slots scanner newer terms slots) (line.Term said) told = told_if_map (eqb (length slots) 0) (λ (more : ScannerTerms). Slots scanner newer more slots) (with_line terms said) (λ more. refl)
-told_on (Slots scanner newer terms slots) (line.Slot value) told = refl
-told_on (Slots scanner newer terms slots) (line.Event value) told = told_first scanner newer terms slots value (early_block slots value) refl
-told_on (Events made_of entries None) (line.Event value) told = told_event made_of entries None value told
-told_on (Events made_of entries (Some last)) (line.Event value) told = told_event made_of entries (Some last) value told
-told_on (Events made_of entries (Some last)) (line.Recorded number value) told =
-    told_if_map (eqb number (length entries + 1)) (λ (outcome : Outcome). Events made_of entries (Some (last.0, Some outcome))) (recorded_with last.1 value) (λ outcome. told_recorded made_of entries last outcome told)
-told_on builder value told = tt
+order_on : (builder : TraceBuilder) (value : TraceLine) → is_in_order builder ≡ true → InOrder (builder_with builder value)
+order_on Empty (line.Adapter value) ordered = refl
+order_on Empty (line.Scanner value) ordered = refl
+order_on (Points adapter outputs inputs) (line.Output value) ordered = order_if (eqb (length inputs) 0) (Points adapter (outputs ++ value ∷ []) inputs) refl
+order_on (Points adapter outputs inputs) (line.Input value) ordered = refl
+order_on (Points adapter outputs inputs) (line.Config value) ordered = refl
+order_on (Points adapter outputs inputs) (line.Description value) ordered = refl
+order_on (Points adapter outputs inputs) (line.Limit value) ordered = order_stated (front_of adapter outputs inputs None None) value
+order_on (Points adapter outputs inputs) (line.Object value) ordered = refl
+order_on (Points adapter outputs inputs) (line.Event value) ordered = order_ids (front_of adapter outputs inputs None None) [] value
+order_on (Points adapter outputs inputs) (line.Heartbeat value) ordered = refl
+order_on (Configured adapter outputs inputs point) (line.Description value) ordered = refl
+order_on (Configured adapter outputs inputs point) (line.Limit value) ordered = order_stated (front_of adapter outputs inputs (Some point) None) value
+order_on (Configured adapter outputs inputs point) (line.Object value) ordered = refl
+order_on (Configured adapter outputs inputs point) (line.Event value) ordered = order_ids (front_of adapter outputs inputs (Some point) None) [] value
+order_on (Configured adapter outputs inputs point) (line.Heartbeat value) ordered = refl
+order_on (Stated front) (line.Limit value) ordered = order_stated front value
+order_on (Stated front) (line.Object value) ordered = refl
+order_on (Stated front) (line.Event value) ordered = order_ids front [] value
+order_on (Stated front) (line.Heartbeat value) ordered = refl
+order_on (Objects front objects) (line.Object value) ordered = refl
+order_on (Objects front objects) (line.Event value) ordered = order_ids front objects value
+order_on (Objects front objects) (line.Heartbeat value) ordered = refl
+order_on (Counted front objects block) (line.Heartbeat value) ordered = refl
+order_on (Slots scanner newer terms slots) (line.Limit value) ordered = order_newer scanner newer terms slots value
+order_on (Slots scanner newer terms slots) (line.Term said) ordered = order_if_map (eqb (length slots) 0) (λ (more : ScannerTerms). Slots scanner newer more slots) (with_line terms said) (λ more. refl)
+order_on (Slots scanner newer terms slots) (line.Slot value) ordered = refl
+order_on (Slots scanner newer terms slots) (line.Event value) ordered = order_first scanner newer terms slots value (early_block slots value) refl
+order_on (Events made_of entries None) (line.Event value) ordered = order_event made_of entries None value ordered
+order_on (Events made_of entries (Some last)) (line.Event value) ordered = order_event made_of entries (Some last) value ordered
+order_on (Events made_of entries (Some last)) (line.Recorded number value) ordered =
+    order_if_map (eqb number (length entries + 1)) (λ (outcome : Outcome). Events made_of entries (Some (last.0, Some outcome))) (recorded_with last.1 value) (λ outcome. order_recorded made_of entries last outcome ordered)
+order_on builder value ordered = tt
 
-told_from : (said : Option TraceBuilder) (next : TraceBuilder) → Told said → said ≡ Some next → is_told next ≡ true
-told_from None next told is = absurd (cc)
-told_from (Some own) next told is = ap is_told (sym (some_is own next is)) ∙ told
+order_from : (said : Option TraceBuilder) (next : TraceBuilder) → InOrder said → said ≡ Some next → is_in_order next ≡ true
+order_from None next ordered is = absurd (cc)
+order_from (Some own) next ordered is = ap is_in_order (sym (some_is own next is)) ∙ ordered
 
 -- and so do lines
-pub run_told : (builder : TraceBuilder) (lines : List (Option TraceLine)) (end : TraceBuilder) → is_told builder ≡ true → run builder lines ≡ Some end → is_told end ≡ true
-run_told builder [] end told is = ap is_told (sym (some_is builder end is)) ∙ told
-run_told builder (None ∷ lines) end told is = absurd (cc)
-run_told builder (Some value ∷ lines) end told is =
+pub run_in_order : (builder : TraceBuilder) (lines : List (Option TraceLine)) (end : TraceBuilder) → is_in_order builder ≡ true → run builder lines ≡ Some end → is_in_order end ≡ true
+run_in_order builder [] end ordered is = ap is_in_order (sym (some_is builder end is)) ∙ ordered
+run_in_order builder (None ∷ lines) end ordered is = absurd (cc)
+run_in_order builder (Some value ∷ lines) end ordered is =
     let (next, (first, rest)) = found_in (λ next. run next lines) (builder_with builder value) end is in
-    run_told next lines end (told_from (builder_with builder value) next (told_on builder value told) first) rest
+    run_in_order next lines end (order_from (builder_with builder value) next (order_on builder value ordered) first) rest

@@ -11,9 +11,8 @@ use cip_types::IdBlock;
 use std::alloc::Global;
 use std::str;
 use trace_lines::{
-    TermLine, limit_named, read_adapter, read_description, read_heartbeat, read_limit,
-    read_mode, read_object, read_openings, read_output, read_point, read_scanner, read_serials,
-    read_slot,
+    TermLine, limit_named, read_adapter, read_description, read_heartbeat, read_limit, read_mode,
+    read_object, read_openings, read_output, read_point, read_scanner, read_serials, read_slot,
 };
 use trace_outcomes::read_part;
 use trace_words::{TextFault, Words, read_u64};
