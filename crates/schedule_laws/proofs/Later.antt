@@ -37,7 +37,7 @@ use Rattle.device_laws.specs.Carrying.{Passes, TableIds}
 use Rattle.schedule_laws.specs.Ids.{IsDrawnFrame, is_drawn, any_opening, SentHolds, IdsAreDrawn, Moments, IdsToComeAreUnsent, LaterConnectionsAcceptNoneOfIt, LaterGroupsSentNoneOfIt}
 use Rattle.schedule_laws.specs.Lives.{AreApart, HasNumber}
 use Rattle.schedule_laws.specs.Lemmas.Moves.{Moves, act_moves, runs_keep}
-use Rattle.schedule_laws.specs.Lemmas.Tests.{DrawnBy, drawn_cases, not_both, numbered_on, set_cases, whole_blocks, whole_in_range}
+use Rattle.schedule_laws.specs.Lemmas.Tests.{DrawnBy, drawn_cases, not_both, set_cases, whole_blocks, whole_in_range}
 use Rattle.schedule_laws.specs.Lemmas.Drawing.{StepLaws, Openings, Drawn, Grew, grew_itself, runs_grew, moved_drawn, runs_drawn, all_drawn}
 
 -- ---- what a list contains
@@ -74,11 +74,12 @@ unsent was now device t u number s d all whole whole_now grew apart at_was at_no
       let g = grew by.device by.table by.there in
       let n = by.numbered in
       let last = whole_in_range by.table (whole by.device by.table by.there) in
-      let later = numbered_on by.table g.table d.connection last g.blocks g.counts by.numbered in
-      let below = later.ends in
+      let below = n.ends in
+      let counts = g.counts in
+      let stays = g.blocks.same n.number n.begins (omega (arith, below, last)) in
       let last_now = whole_in_range g.table (whole_now by.device g.table g.there) in
-      let same : (id_at (ids_of g.table) n.number).0 ≡ (id_at (ids_of u) number).0 = later.is ∙ is in
-      let place : by.device ≡ device = apart.differ by.device device g.table u n.number number g.there at_now (record { begins = n.begins; ends = omega (arith, below, last_now) }) has same in
+      let same : (id_at (ids_of g.table) n.number).0 ≡ (id_at (ids_of u) number).0 = ap (λ (c : ConnId). c.0) stays ∙ n.is ∙ is in
+      let place : by.device ≡ device = apart.differ by.device device g.table u n.number number g.there at_now (record { begins = n.begins; ends = omega (arith, below, counts, last_now) }) has same in
       let own : g.table ≡ u = same_Some g.table u (sym g.there ∙ ap (slice_get now.tables) place ∙ at_now) in
       let first : by.table ≡ t = same_Some by.table t (sym by.there ∙ ap (slice_get was.tables) place ∙ at_was) in
       let old : n.number < next_id_of t = subst (λ (x : DeviceTable). n.number < next_id_of x) first n.ends in
