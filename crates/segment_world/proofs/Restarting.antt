@@ -30,11 +30,15 @@ pub record Next (p : Plant) (byte life : ℕ) (made : Config) : Type 0 where
 pub found_at : (configs read : List Config) (life : ℕ) (found : Config) → read ≡ configs → life < length read → found ≡ get_or read life found → slice_get configs life ≡ Some found
 found_at configs read life found read_is lt found_is = ap (λ (l : List Config). slice_get l life) (sym read_is) ∙ slice_get_read read (length read) life found refl lt found_is
 
+-- a byte that was tested over the configurations is a new one
+pub free_at : (p : Plant) (again : List Config) (byte : ℕ) (found : Config) (used : Bool) → again ≡ p.configs → used ≡ (is_none (stated_ids found) && is_used byte again) → used ≡ false → (is_none (stated_ids found) && is_used byte p.configs) ≡ false
+free_at p again byte found used again_is used_is free = ap (λ (l : List Config). is_none (stated_ids found) && is_used byte l) (sym again_is) ∙ sym used_is ∙ free
+
 pub next_of : (p : Plant) (read again : List Config) (byte life : ℕ) (found copied named made : Config) (stated ids : Option IdBlock) (used : Bool) → read ≡ p.configs → again ≡ p.configs → life < length read → found ≡ get_or read life found → used ≡ (is_none (stated_ids found) && is_used byte again) → used ≡ false → copied ≡ found → stated ≡ stated_ids copied → ids ≡ ids_of_next p life stated → IfSome ids (λ block. is_block block ≡ true) → named ≡ with_incarnation byte copied → made ≡ with_ids ids named → Next p byte life made
 next_of p read again byte life found copied named made stated ids used read_is again_is lt found_is used_is free copied_is stated_is ids_are fits named_is made_is = record {
   found = found;
   at = found_at p.configs read life found read_is lt found_is;
-  new = ap (λ (l : List Config). is_none (stated_ids found) && is_used byte l) (sym again_is) ∙ sym used_is ∙ free;
+  new = free_at p again byte found used again_is used_is free;
   fits = subst (λ (i : Option IdBlock). IfSome i (λ block. is_block block ≡ true)) (ids_are ∙ ap (λ (i : Option IdBlock). ids_of_next p life i) (stated_is ∙ ap stated_ids copied_is)) fits;
   is = made_is
       ∙ ap (λ (c : Config). with_ids ids c) named_is
@@ -81,6 +85,16 @@ goes_so p device byte life made there next other =
 -- so it has no fault
 pub goes : (p : Plant) (device byte life : ℕ) (made : Config) → life_of p device ≡ Some life → (next : Next p byte life made) → (byte == 0) ≡ false → IsOk (restarts p device byte)
 goes p device byte life made there next other = subst (λ (said : Restarted). IsOk said) (sym (goes_so p device byte life made there next other)) refl
+
+-- a restart has no fault where the configuration is found and the byte is a new one, whatever ids are left
+pub goes_found : (p : Plant) (device byte life : ℕ) (found : Config) → life_of p device ≡ Some life → slice_get p.configs life ≡ Some found → (is_none (stated_ids found) && is_used byte p.configs) ≡ false → (byte == 0) ≡ false → IsOk (restarts p device byte)
+goes_found p device byte life found there at new other =
+    let said : restarts p device byte ≡ Ok (restarted device life (next_config p byte life found) p) =
+    ap (restarts_at p device byte) there
+    ∙ ap (restarts_as p device byte life) at
+    ∙ ap (λ (used : Bool). restarts_unless p device byte life found used (byte == 0)) new
+    ∙ ap (restarts_unless p device byte life found false) other in
+    subst (λ (r : Restarted). IsOk r) (sym said) refl
 
 pub is_other : (byte : ℕ) → byte ≢ 0 → (byte == 0) ≡ false
 is_other byte other = grind (arith, nat_tests)
