@@ -267,7 +267,6 @@ requests_are_within = record {
       let more = within_messaged t (t.next_id + 1) (with_class3 t.messaging (opened_class3 t stream request)) within in
       record { places = more.places; nodes = more.nodes };
   tallied = λ t next counters goes within. within_tallied next counters (goes within);
-  taken = λ t block may within. record { places = within.places; nodes = within.nodes };
 }
 
 -- ---- an event
@@ -294,7 +293,7 @@ steps_are_within t (Tick ms) next is within =
     let later = (advanced (clocked_table t ms)).1 in
     subst (λ (n : Next). IsWithinLimits n.1) (tick_is t ms next is).said (within_messaged later later.next_id (aged later.clock later.messaging) (within_advanced t ms within))
 steps_are_within t other next is within =
-    limited_control (λ t next. IsWithinLimits t → IsWithinLimits next) requests_are_within (λ t number peer free. within_with t number peer) t other next refl is within
+    limited_control (λ t next. IsWithinLimits t → IsWithinLimits next) requests_are_within (λ t number peer free. within_with t number peer) (λ t block may within. record { places = within.places; nodes = within.nodes }) t other next refl is within
 
 fresh_places : (places : Option Places) → AreWithinPlaces places []
 fresh_places None = tt

@@ -140,7 +140,6 @@ requests_within = record {
   messaged = λ t next_id m goes are. messaged_within t next_id m are;
   connected = λ t stream request passes carried are. connected_within t stream request passes are;
   tallied = λ t next counters goes are. tallied_within next counters (goes are);
-  taken = λ t block may are. are;
 }
 
 -- ---- an event
@@ -166,7 +165,7 @@ steps_are t (Write point bytes) next is are = subst (λ (n : Next). AreAt n.1) (
 steps_are t (Tick ms) next is are =
     let later = (advanced (clocked_table t ms)).1 in
     subst (λ (n : Next). AreAt n.1) (tick_is t ms next is).said (messaged_within later later.next_id (aged later.clock later.messaging) (advanced_within t ms are))
-steps_are t other next is are = limited_control (λ t next. AreAt t → AreAt next) requests_within (λ t number peer free. with_within t number peer) t other next refl is are
+steps_are t other next is are = limited_control (λ t next. AreAt t → AreAt next) requests_within (λ t number peer free. with_within t number peer) (λ t block may are. are) t other next refl is are
 
 pub steps_open_within : StepsKeep OpensWithinLimits
 steps_open_within t event next is within =

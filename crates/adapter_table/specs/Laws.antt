@@ -13,6 +13,7 @@ use Rattle.cip_events.specs.declared.event.Delivery.{Delivery}
 use Rattle.cip_events.specs.declared.event.Delivery.TheVariants.{Applied}
 use Rattle.cip_events.specs.declared.event.Event.{Event}
 use Rattle.cip_events.specs.declared.event.StepFault.{StepFault}
+use Rattle.cip_events.specs.Arrivals.{gives_ids}
 use Rattle.cip_productions.specs.declared.acceptance.Accepted.{Accepted}
 use Rattle.messaging.specs.declared.table.Messaging.{Messaging}
 use Rattle.adapter_table.specs.declared.profile.InputPoint.{InputPoint}
@@ -45,6 +46,10 @@ use Rattle.adapter_table.specs.Newest.{Acceptance, EachAfter, last_accepted, acc
 -- a step keeps it
 abbrev pub StepsKeep : (AdapterTable → Type 0) → Type 0
 StepsKeep P = (t : AdapterTable) (event : Event) (next : Next) → adapter_step t event ≡ Ok next → P t → P next.1
+
+-- a step by an event that gives no block of ids leaves the blocks as they are
+abbrev pub StepsLeaveIds : Type 0
+StepsLeaveIds = (t : AdapterTable) (event : Event) (next : Next) → adapter_step t event ≡ Ok next → gives_ids event ≡ false → next.1.ids ≡ t.ids
 
 -- a step from a whole table leaves at each output what the event says
 abbrev pub StepsLeave : Type 0

@@ -15,7 +15,7 @@ ghost use Rattle.adapter_table.specs.Sound.{IsSound};
 ghost use Rattle.adapter_table.specs.Whole.{IsWhole};
 ghost use Rattle.adapter_table.specs.StatedLimits.{IsWithinLimits, PlacesAreKept};
 ghost use Rattle.adapter_table.specs.Newest.{HasNewerNumber, IsAppliedNew, IsNotAgain};
-ghost use Rattle.adapter_table.specs.Laws.{EffectsKeep, AdmittedAreTimed, StoredSegmentsFit, AppliedDataHaveOutputs, AppliedDataFit, StepsKeep, StepsLeave, RefusalsTouchNothing, FreshOutputsAreZeros, StepsAcceptAfter, RefusalsAcceptNothing};
+ghost use Rattle.adapter_table.specs.Laws.{EffectsKeep, AdmittedAreTimed, StoredSegmentsFit, AppliedDataHaveOutputs, AppliedDataFit, StepsKeep, StepsLeave, StepsLeaveIds, RefusalsTouchNothing, FreshOutputsAreZeros, StepsAcceptAfter, RefusalsAcceptNothing};
 
 /// The table of a fresh adapter is sound, if its profile has no fault, and a step from a sound table leads to a sound one.
 pub fn tables_are_sound()
@@ -57,6 +57,11 @@ pub fn counters_never_fall()
 /// The blocks of connection ids grow: the ids of the numbers that they have stay.
 pub fn blocks_grow()
     ensures { (ids : List IdBlock) → StepsKeep (λ t. Extends ids t.ids) }
+{}
+
+/// Only a further block changes the blocks of connection ids.
+pub fn blocks_stay()
+    ensures { StepsLeaveIds }
 {}
 
 /// An output of a fresh adapter holds zeros; after each event it has the bytes that the event left there, else those

@@ -22,3 +22,8 @@ is_own (event.Frame stream bytes) = false
 is_own (event.StreamCut stream) = false
 is_own (event.Datagram peer bytes) = false
 is_own other = true
+
+-- the event gives the device a further block of connection ids
+abbrev pub gives_ids : Event → Bool
+gives_ids (event.Ids block) = true
+gives_ids other = false

@@ -14,7 +14,7 @@ use Rattle.adapter_table.specs.Requests.{Next}
 use Rattle.adapter_table.specs.Step.{adapter_step, adapter_table}
 use Rattle.adapter_table.specs.Sound.{IsSound}
 use Rattle.adapter_table.specs.Whole.{IsWhole}
-use Rattle.adapter_table.specs.Laws.{StepsKeep}
+use Rattle.adapter_table.specs.Laws.{StepsKeep, StepsLeaveIds as AdaptersLeaveIds}
 use Rattle.adapter_table.specs.MessagesSound.{IsSettled}
 use Rattle.adapter_table.specs.MessageLaws.{AnswersSettle, SettledAreRefused}
 use Rattle.adapter_table.specs.Rates.{OpensWithinLimits}
@@ -25,7 +25,7 @@ use Rattle.scanner_table.specs.Effects.{Next as ScannerNext}
 use Rattle.scanner_table.specs.Profiles.{profile_fault as scanner_profile_fault}
 use Rattle.scanner_table.specs.Step.{scanner_step, scanner_table}
 use Rattle.scanner_table.specs.Whole.{IsWholeScanner}
-use Rattle.scanner_table.specs.Counters.{CountsOn}
+use Rattle.scanner_table.specs.Counters.{CountsOn, StepsLeaveIds as ScannersLeaveIds}
 use Rattle.scanner_table.specs.Runs.{StepsLead as ScannersLead}
 use Rattle.cip_tables.specs.declared.table.Config.{Config}
 use Rattle.cip_tables.specs.declared.table.Config.TheVariants as config
@@ -34,7 +34,7 @@ use Rattle.cip_tables.specs.declared.table.DeviceTable.TheVariants.{Adapter, Sca
 use Rattle.cip_tables.specs.Step.{DeviceNext, as_adapter, config_fault, as_scanner, step, opening_table}
 use Rattle.cip_tables.specs.Messages.{OverEveryWholeRun, AnswersAreOnce}
 use Rattle.cip_tables.specs.Run.{Runs}
-use Rattle.cip_tables.specs.Sound.{IsSoundDevice, OverEveryRun, StepsCountOn, StepsGrow, RunsCountOn}
+use Rattle.cip_tables.specs.Sound.{IsSoundDevice, OverEveryRun, StepsCountOn, StepsGrow, StepsLeaveIds, RunsCountOn}
 use Rattle.cip_tables.specs.StatedLimits.{FreshDevicesOpenWithin, RunsStayWithin, FreshDevicesStayWithin, TypesHavePlaces}
 use Rattle.cip_tables.specs.Whole.{IsWholeDevice, ids_of, next_id_of, RunsKeepWhole, FreshDevicesAreWhole, TablesAreWhole}
 
@@ -193,6 +193,21 @@ scanners_grow counts ids t event grows = blocks_said t ids (scanner_step t event
 pub steps_grow : ((ids : List IdBlock) → StepsKeep (λ t. Extends ids t.ids)) → ScannersLead CountsOn → StepsGrow
 steps_grow steps counts old event next is =
     grown_in (ids_of old) next.1 (step_keeps (λ t. Extends (ids_of old) t.ids) (λ t. Extends (ids_of old) t.ids) (steps (ids_of old)) (scanners_grow counts (ids_of old)) old event next is (grows_from old))
+
+left_in : (ids : List IdBlock) (t : DeviceTable) → InDevice (λ t. t.ids ≡ ids) (λ t. t.ids ≡ ids) t → ids_of t ≡ ids
+left_in ids (Adapter t) same = same
+left_in ids (Scanner t) same = same
+
+scanner_left : (ids : List IdBlock) (said : Result ScannerNext StepFault) → ((next : ScannerNext) → said ≡ Ok next → next.1.ids ≡ ids) → IfOk said (λ next. next.1.ids ≡ ids)
+scanner_left ids (Ok next) leaves = leaves next refl
+scanner_left ids (Err fault) leaves = tt
+
+pub steps_leave : AdaptersLeaveIds → ScannersLeaveIds → StepsLeaveIds
+unfolding step
+steps_leave adapters scanners (Adapter t) event next is none =
+    left_in t.ids next.1 (adapter_keeps (λ a. a.ids ≡ t.ids) (λ s. s.ids ≡ t.ids) (adapter_step t event) next is (λ n said. adapters t event n said none))
+steps_leave adapters scanners (Scanner t) event next is none =
+    left_in t.ids next.1 (scanner_keeps (λ a. a.ids ≡ t.ids) (λ s. s.ids ≡ t.ids) (scanner_step t event) next is (scanner_left t.ids (scanner_step t event) (λ n said. scanners t event n said none)))
 
 -- ---- later counters
 

@@ -1,7 +1,8 @@
 -- Properties of every adapter's table that a run reaches, and of the counter of connection ids.
-use Rattle.std.specs.Prelude.{◌≡◌, ◌≤◌, List, None, Ok}
+use Rattle.std.specs.Prelude.{◌≡◌, ◌≤◌, false, List, None, Ok}
 use Rattle.cip_types.specs.Ids.{Extends}
 use Rattle.cip_events.specs.declared.event.Event.{Event}
+use Rattle.cip_events.specs.Arrivals.{gives_ids}
 use Rattle.cip_events.specs.Outcomes.{Outcome}
 use Rattle.adapter_table.specs.declared.table.AdapterTable.{AdapterTable}
 use Rattle.adapter_table.specs.Sound.{IsSound}
@@ -38,6 +39,12 @@ abbrev pub StepsGrow : Type 0
 StepsGrow =
     (old : DeviceTable) (event : Event) (next : DeviceNext) →
     step old event ≡ Ok next → Extends (ids_of old) (ids_of next.1)
+
+-- a step by an event that gives no block leaves the blocks as they are
+abbrev pub StepsLeaveIds : Type 0
+StepsLeaveIds =
+    (old : DeviceTable) (event : Event) (next : DeviceNext) →
+    step old event ≡ Ok next → gives_ids event ≡ false → ids_of next.1 ≡ ids_of old
 
 -- nor does it fall in a run
 abbrev pub RunsCountOn : Type 0

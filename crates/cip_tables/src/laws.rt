@@ -13,7 +13,7 @@ ghost use Rattle.cip_tables.specs.Newest.{OverEveryConnection};
 ghost use Rattle.cip_tables.specs.Scratch.{OutputsAreFromScratch, FreshOutputsAreFromScratch};
 ghost use Rattle.cip_tables.specs.StatedLimits.{RunsStayWithin, FreshDevicesOpenWithin, FreshDevicesStayWithin, TypesHavePlaces};
 ghost use Rattle.cip_tables.specs.Whole.{TablesAreWhole, RunsKeepWhole, FreshDevicesAreWhole};
-ghost use Rattle.cip_tables.specs.Sound.{OverEveryRun, StepsCountOn, StepsGrow, RunsCountOn};
+ghost use Rattle.cip_tables.specs.Sound.{OverEveryRun, StepsCountOn, StepsGrow, StepsLeaveIds, RunsCountOn};
 ghost use Rattle.adapter_table.specs.Newest.{HasNewerNumber, IsAppliedNew, IsNotAgain};
 ghost use Rattle.adapter_table.specs.Rows.{most_rows};
 ghost use Rattle.adapter_table.specs.Streams.{most_streams};
@@ -138,6 +138,16 @@ pub fn blocks_grow()
 {
     laws::blocks_grow();
     scanner_table::counters_never_fall();
+}
+
+/// Only a further block changes the blocks of connection ids, at a device of either kind and from any table.
+///
+/// Volume 1, chapter 3, network connection ids.
+pub fn blocks_stay()
+    ensures { StepsLeaveIds }
+{
+    laws::blocks_stay();
+    scanner_table::blocks_stay();
 }
 
 /// There are at most 16 open streams.

@@ -41,7 +41,7 @@ use Rattle.device_laws.specs.Newest.{Acceptance, came_from, is_connection, accep
 use Rattle.scanner_table.specs.Lemmas.SlotLookups.{Stands, indexed_at, slot_is, slot_stands, each_found, each_stands}
 use Rattle.scanner_table.specs.Lemmas.Moves.{KeptWidely, OrEstablished, Leads, Writes, frame_leads, write_leads}
 use Rattle.scanner_table.specs.Lemmas.Events.{steps_lead, law_of}
-use Rattle.scanner_table.specs.Lemmas.Slotwise.{set_later, Relation, Slotwise, SlotwiseAlways, Goes, set_goes, apart_goes, goes_widely, goes_always, Property, Stays, was_of, of_each_slot}
+use Rattle.scanner_table.specs.Lemmas.Slotwise.{set_later, Relation, Slotwise, SlotwiseAlways, Goes, set_goes, apart_goes, goes_widely, goes_taken, goes_always, Property, Stays, was_of, of_each_slot}
 use Rattle.scanner_table.specs.Lemmas.FreshSlots.{fresh_rests}
 use Rattle.scanner_table.specs.Lemmas.Moves.{bare_leads}
 
@@ -381,7 +381,7 @@ step_goes : (R : Option Accepted → Acceptance → Type 0) → FitsNewer R → 
 step_goes R fits number opening last t (Frame stream bytes) all table = leads_known number opening last t (scanner_step t (Frame stream bytes)) all table (frame_leads (Knowing opening last) (Knowing opening last) t (known_established opening last t) stream bytes)
 step_goes R fits number opening last t (Datagram peer bytes) all table = received_goes R fits number opening last t peer bytes all table
 step_goes R fits number opening last t (Write point bytes) all table = leads_known number opening last t (scanner_step t (Write point bytes)) all table (write_leads (Knowing opening last) t (known_writes opening last t) point bytes)
-step_goes R fits number opening last t other all table = leads_known number opening last t (scanner_step t other) all table (bare_leads (Knowing opening last) (known_widely opening last) t other refl)
+step_goes R fits number opening last t other all table = leads_known number opening last t (scanner_step t other) all table (bare_leads (Knowing opening last) (known_widely opening last) (goes_taken (Stays (Remembers opening last)) (remembers_widely opening last)) t other refl)
 
 goes_next : (R : Option Accepted → Acceptance → Type 0) (number opening : ℕ) (last : Option Accepted) (t : ScannerTable) (event : Event) (said : Result Next StepFault) (next : Next) → said ≡ Ok next → AnswerGoes R number opening last t event said → GoesOn R number opening last (accepted_at number opening t event) next.1
 goes_next R number opening last t event said next is goes = subst (AnswerGoes R number opening last t event) is goes

@@ -38,7 +38,7 @@ use Rattle.device_laws.specs.Scratch.{or_else, datagram_left, data_left, is_esta
 use Rattle.scanner_table.specs.Lemmas.SlotLookups.{Stands, indexed_at, slot_is, slot_stands, each_found, each_stands}
 use Rattle.scanner_table.specs.Lemmas.Moves.{KeptWidely, OrEstablished, Leads, Writes, Accepts, frame_leads, write_leads, received_leads}
 use Rattle.scanner_table.specs.Lemmas.Events.{events_lead, leads_next}
-use Rattle.scanner_table.specs.Lemmas.Slotwise.{set_later, Relation, StaysSo, Slotwise, SlotwiseAlways, Goes, goes_always, stays_goes, set_goes, apart_goes, goes_widely, was_of, of_each_change}
+use Rattle.scanner_table.specs.Lemmas.Slotwise.{set_later, Relation, StaysSo, Slotwise, SlotwiseAlways, Goes, goes_always, stays_goes, set_goes, apart_goes, goes_taken, goes_widely, was_of, of_each_change}
 use Rattle.scanner_table.specs.Lemmas.Moves.{bare_leads}
 
 -- ---- images that stay
@@ -230,7 +230,7 @@ pub step_images : (t : ScannerTable) (event : Event) → LeavesImages t event (s
 step_images t (Frame stream bytes) = frame_leads (Goes Calm) (Goes Images) t (or_established t) stream bytes
 step_images t (Datagram peer bytes) = received_goes t peer bytes
 step_images t (Write point bytes) = calm_leads t (scanner_step t (Write point bytes)) (write_leads (Goes Calm) t (calm_writes t) point bytes)
-step_images t other = calm_leads t (scanner_step t other) (bare_leads (Goes Calm) calm_widely t other refl)
+step_images t other = calm_leads t (scanner_step t other) (bare_leads (Goes Calm) calm_widely (goes_taken Calm calm_slotwise) t other refl)
 
 -- ---- outputs
 
@@ -319,7 +319,7 @@ step_outputs : (t : ScannerTable) (event : Event) → LeavesOutputs t event (sca
 step_outputs t (Frame stream bytes) = frame_leads (Goes Same) (Goes Same) t (same_established t) stream bytes
 step_outputs t (Datagram peer bytes) = received_leads (Goes Same) t (same_widely.slots.same t) (same_accepts t) peer bytes
 step_outputs t (Write point bytes) = write_writes t point bytes
-step_outputs t other = bare_leads (Goes Same) same_widely t other refl
+step_outputs t other = bare_leads (Goes Same) same_widely (goes_taken Same same_slotwise) t other refl
 
 -- ---- one event
 

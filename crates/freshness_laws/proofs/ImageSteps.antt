@@ -37,7 +37,7 @@ use Rattle.device_laws.specs.Newest.{Acceptance, acceptance_of, is_connection, a
 use Rattle.scanner_table.specs.Lemmas.SlotLookups.{Stands, indexed_at, slot_is, slot_stands, each_found, each_stands}
 use Rattle.scanner_table.specs.Lemmas.Moves.{KeptWidely, OrEstablished, Leads, Writes, frame_leads, write_leads, bare_leads}
 use Rattle.scanner_table.specs.Lemmas.Events.{leads_next}
-use Rattle.scanner_table.specs.Lemmas.Slotwise.{same_later, set_later, Relation, StaysSo, Slotwise, Goes, stays_goes, set_goes, apart_goes, goes_widely, was_of}
+use Rattle.scanner_table.specs.Lemmas.Slotwise.{same_later, set_later, Relation, StaysSo, Slotwise, Goes, stays_goes, set_goes, apart_goes, goes_taken, goes_widely, was_of}
 use Rattle.freshness_laws.specs.InTime.{first_timeout}
 use Rattle.freshness_laws.specs.Images.{taken_found, taken_read, taken_at}
 
@@ -330,7 +330,7 @@ event_leads : (t : ScannerTable) (event : Event) → Leads (λ u v. EventGoes t 
 event_leads t (Frame stream bytes) = frame_leads (Goes Calm) (Goes (Moves no_one nothing_taken)) t (or_established t) stream bytes
 event_leads t (Datagram peer bytes) = received_goes t peer bytes
 event_leads t (Write point bytes) = calm_leads t (scanner_step t (Write point bytes)) (write_leads (Goes Calm) t (calm_writes t) point bytes)
-event_leads t other = calm_leads t (scanner_step t other) (bare_leads (Goes Calm) calm_widely t other refl)
+event_leads t other = calm_leads t (scanner_step t other) (bare_leads (Goes Calm) calm_widely (goes_taken Calm calm_slotwise) t other refl)
 
 -- the slot of a number before an event
 pub record Goes_on (number : ℕ) (t : ScannerTable) (event : Event) (now : IndexedSlot) (c : SlotConnection) : Type 0 where

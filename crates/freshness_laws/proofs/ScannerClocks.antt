@@ -46,12 +46,12 @@ later_widely = record {
   producing = produced_later;
   moding = λ t run. omega arith;
   explicit = λ t pending request later. omega arith;
-  taken = λ t block may. omega arith;
 }
 
 later_always : KeptAlways Later
 later_always = record {
   widely = later_widely;
+  taken = λ t block may. omega arith;
   establishing = λ t indexed o success stands is requested. omega arith;
   writing = λ t indexed bytes stands. omega arith;
   accepting = λ t indexed d c bytes stands is. omega arith;

@@ -50,12 +50,12 @@ chronicled schedules names configs moves h is =
 
 -- TWO MOMENTS
 
-moves_after : (so_far : Option PlantStory) (moves more : List Move) → plays so_far (moves ++ more) ≡ plays (plays so_far moves) more
+pub moves_after : (so_far : Option PlantStory) (moves more : List Move) → plays so_far (moves ++ more) ≡ plays (plays so_far moves) more
 unfolding plays
 moves_after so_far [] more = refl
 moves_after so_far (move ∷ moves) more = moves_after (then_move so_far move) moves more
 
-bytes_both : (moves more : List Move) → AllByRecursion IsByteMove moves → AllByRecursion IsByteMove more → AllByRecursion IsByteMove (moves ++ more)
+pub bytes_both : (moves more : List Move) → AllByRecursion IsByteMove moves → AllByRecursion IsByteMove more → AllByRecursion IsByteMove (moves ++ more)
 bytes_both [] more first next = next
 bytes_both (move ∷ moves) more first next = (first.0, bytes_both moves more first.1 next)
 

@@ -1,1 +1,2 @@
 pub mod Chronicling
+pub mod OwnIds

@@ -2,10 +2,10 @@
 //! hold. A law call does nothing; its contract states the law.
 #![tactic(auto)]
 
-ghost use Rattle.plant_laws.specs.Chronicles.{StoriesAreChronicled, LaterLivesTakeNothingOlder};
+ghost use Rattle.plant_laws.specs.Chronicles.{StoriesAreChronicled, StoriesWithoutIdsArePlayed, LaterLivesTakeNothingOlder, LaterLivesWithoutIdsTakeNothingOlder};
 
 use cip_tables::laws::blocks_grow;
-use schedule_laws::a_new_life_takes_nothing_older;
+use schedule_laws::{a_new_life_takes_nothing_older, schedules_without_ids_are_apart};
 use segment_world::lives::laws::{
     incarnations_name_lives, later_lives_have_no_events, moments_are_schedules,
     stories_are_schedules, stories_grow,
@@ -34,4 +34,25 @@ pub fn later_lives_take_nothing_older()
     stories_grow();
     incarnations_name_lives();
     a_new_life_takes_nothing_older();
+}
+
+/// Where no device is given a further block of connection ids, no two lives have ids in common at the end. So the two laws above hold
+/// of each such story of faultless configurations that state no ids, where incarnations are bytes.
+///
+/// Volume 1, chapter 3, network connection ids.
+pub fn stories_without_ids_are_played()
+    ensures { StoriesWithoutIdsArePlayed }
+{
+    stories_are_schedules();
+    incarnations_name_lives();
+    schedules_without_ids_are_apart();
+}
+
+/// After a restart, nothing is accepted of what was produced before it: so it is in each such story, and nothing is asked of the
+/// tables at its end.
+pub fn later_lives_without_ids_take_nothing_older()
+    ensures { LaterLivesWithoutIdsTakeNothingOlder }
+{
+    stories_without_ids_are_played();
+    later_lives_take_nothing_older();
 }

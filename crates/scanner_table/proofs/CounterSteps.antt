@@ -1,4 +1,4 @@
--- The numbers never fall, and blocks of ids stay.
+-- The numbers never fall, and blocks of ids stay; only a further block adds to them.
 use Rattle.std.proofs.Common.{◌≡◌, ℕ, suc, Bool, List, [], ◌∷◌, length, length-set, refl, sym, ap, ◌∙◌, arith}
 use Rattle.std.proofs.lemmas.List.{length-map}
 use Rattle.cip_types.specs.IdLaws.{extends_itself, extends_on, block_extends}
@@ -17,9 +17,10 @@ use Rattle.scanner_table.specs.Points.{output_slot, moded_slot, moded_table}
 use Rattle.scanner_table.specs.Productions.{produced_slot, produced_table}
 use Rattle.scanner_table.specs.Runs.{StepsLead, EventsLead}
 use Rattle.scanner_table.specs.WellFormed.{SlotsFit}
-use Rattle.scanner_table.specs.Counters.{CountsOn, WholeTablesAreFull}
-use Rattle.scanner_table.specs.Lemmas.Moves.{KeptAlways}
-use Rattle.scanner_table.specs.Lemmas.Events.{steps_lead, events_lead}
+use Rattle.scanner_table.specs.Counters.{CountsOn, StepsLeaveIds, WholeTablesAreFull}
+use Rattle.scanner_table.specs.Step.{scanner_step}
+use Rattle.scanner_table.specs.Lemmas.Moves.{KeptAlways, KeptElse, else_leads}
+use Rattle.scanner_table.specs.Lemmas.Events.{leads_next, steps_lead, events_lead}
 
 set_counts : (t : ScannerTable) (number : ℕ) (slot : Slot) → CountsOn t (with_slot t number slot)
 set_counts t number slot = record { profile = refl; slots = λ full. length-set t.slots number slot; blocks = extends_itself t.ids; ids = omega arith; requests = omega arith }
@@ -68,8 +69,8 @@ counts_always = record {
     producing = produced_counts;
     moding = moded_counts;
     explicit = λ t pending request later. record { profile = refl; slots = λ full. refl; blocks = extends_itself t.ids; ids = omega arith; requests = later };
-    taken = λ t block may. record { profile = refl; slots = λ full. refl; blocks = block_extends t.ids block may; ids = omega arith; requests = omega arith };
   };
+  taken = λ t block may. record { profile = refl; slots = λ full. refl; blocks = block_extends t.ids block may; ids = omega arith; requests = omega arith };
   establishing = λ t indexed o success stands is requested. set_counts t indexed.number (established_slot indexed (new_connection t indexed o success));
   writing = λ t indexed bytes stands. set_counts t indexed.number (output_slot bytes indexed.slot);
   accepting = λ t indexed d c bytes stands is. set_counts t indexed.number (record indexed.slot { state = Established (accepted_connection t.clock d c); image = bytes });
@@ -80,6 +81,39 @@ steps_count = steps_lead CountsOn counts_always
 
 pub events_count : EventsLead CountsOn
 events_count = events_lead CountsOn counts_always
+
+-- the blocks of ids are as before
+abbrev Leaves : ScannerTable → ScannerTable → Type 0
+Leaves t next = next.ids ≡ t.ids
+
+produced_leaves : (t : ScannerTable) → Leaves t (produced_table t)
+unfolding produced_table
+produced_leaves t = refl
+
+leaves_else : KeptElse Leaves
+leaves_else = record {
+  widely = record {
+    slots = record {
+      same = λ t. refl;
+      after = λ t u v first next. next ∙ first;
+      opening = λ t indexed stands closed_before place left. refl;
+      idling = λ t indexed slot stands idle. refl;
+      timing_out = λ t indexed link slot stands is becomes. refl;
+      closing = λ t indexed link desired_up stands is. refl;
+    };
+    streams = λ t streams. refl;
+    clocked = λ t ms. refl;
+    producing = produced_leaves;
+    moding = λ t run. refl;
+    explicit = λ t pending request later. refl;
+  };
+  establishing = λ t indexed o success stands is requested. refl;
+  writing = λ t indexed bytes stands. refl;
+  accepting = λ t indexed d c bytes stands is. refl;
+}
+
+pub steps_leave : StepsLeaveIds
+steps_leave t event next is none = leads_next Leaves t (scanner_step t event) next is (else_leads Leaves leaves_else t event none)
 
 slots_full : (next clock : ℕ) (configs : List SlotConfig) (slots : List Slot) → SlotsFit next clock configs slots → length slots ≡ length configs
 slots_full next clock [] [] fit = refl

@@ -195,8 +195,8 @@ turns_always = record {
       turns = λ turns target. within_less t.profile.openings _ (openings_at t target) (count_moded target 0 t.profile.slots t.slots) (turns target);
     };
     explicit = λ t pending request later. record { profile = refl; turns = λ turns. turns };
-    taken = λ t block may. record { profile = refl; turns = λ turns. turns };
   };
+  taken = λ t block may. record { profile = refl; turns = λ turns. turns };
   establishing = λ t indexed o success stands is requested.
       let slot = established_slot indexed (new_connection t indexed o success) in
       record { profile = refl; turns = set_turns t indexed slot stands (not_opening slot.state indexed.slot.state refl) };

@@ -405,11 +405,11 @@ owns_always = record {
         let next : ScannerTable = record t { next_request = request; explicit = pending } in
         let goes = drawn_goes.widely.explicit t pending request later in
         owns_by t next refl goes (stays_goes IdStays id_stays t next goes.later refl);
-    taken = λ t block may.
-        let next : ScannerTable = record t { ids = with_block t.ids block } in
-        let goes = drawn_goes.widely.taken t block may in
-        record { goes = goes; blocks = λ are. stay_blocks t.ids block are may; own = λ are. own_where t next (stays_goes IdStays id_stays t next goes.later refl) };
   };
+  taken = λ t block may.
+      let next : ScannerTable = record t { ids = with_block t.ids block } in
+      let goes = drawn_goes.taken t block may in
+      record { goes = goes; blocks = λ are. stay_blocks t.ids block are may; own = λ are. own_where t next (stays_goes IdStays id_stays t next goes.later refl) };
   establishing = established_owns;
   writing = λ t indexed bytes stands.
       let slot = output_slot bytes indexed.slot in

@@ -4,7 +4,7 @@ ghost use Rattle.std.specs.Prelude.{◌≡◌, None};
 ghost use Rattle.scanner_table.specs.declared.profile.ScannerProfile.{ScannerProfile};
 ghost use Rattle.scanner_table.specs.Profiles.{profile_fault};
 ghost use Rattle.scanner_table.specs.Step.{scanner_table};
-ghost use Rattle.scanner_table.specs.Counters.{CountsOn, WholeTablesAreFull};
+ghost use Rattle.scanner_table.specs.Counters.{CountsOn, StepsLeaveIds, WholeTablesAreFull};
 ghost use Rattle.scanner_table.specs.Drawn.{NumbersAreOwn};
 ghost use Rattle.scanner_table.specs.Runs.{StepsLead, EventsLead, StepsKeep, EventsKeep};
 
@@ -15,6 +15,11 @@ pub fn counters_never_fall()
     ensures step { StepsLead CountsOn }
     ensures events { EventsLead CountsOn }
     ensures whole { WholeTablesAreFull }
+{}
+
+/// Only a further block changes the blocks of connection ids, from any table.
+pub fn blocks_stay()
+    ensures { StepsLeaveIds }
 {}
 
 /// The number of a pending request, and that of the request that opened an established connection, are below the next

@@ -17,7 +17,7 @@ mod table;
 mod whole;
 
 pub use copy::copy_of_slots;
-pub use counters::{counters_never_fall, numbers_are_below_the_next};
+pub use counters::{blocks_stay, counters_never_fall, numbers_are_below_the_next};
 pub use explicit::{
     LONGEST_EXPLICIT, MOST_EXPLICIT, PendingExplicit, SHORTEST_EXPLICIT,
     explicit_requests_are_pending, replies_are_to_pending_requests,

@@ -18,7 +18,7 @@ use Rattle.scanner_table.specs.Slots.{IndexedSlot, with_slot}
 use Rattle.scanner_table.specs.Step.{scanner_step}
 use Rattle.scanner_table.specs.Lemmas.Moves.{Leads, write_leads}
 use Rattle.scanner_table.specs.Lemmas.SlotLookups.{Stands}
-use Rattle.scanner_table.specs.Lemmas.Slotwise.{Goes, Relation, Slotwise, goes_kept, goes_widely, set_goes, set_later}
+use Rattle.scanner_table.specs.Lemmas.Slotwise.{Goes, Relation, Slotwise, goes_kept, goes_taken, goes_widely, set_goes, set_later}
 use Rattle.scanner_table.specs.Lemmas.Moves.{bare_leads}
 use Rattle.cip_tables.specs.Step.{is_datagram}
 use Rattle.device_laws.specs.Lemmas.Quietly.{KeptQuietly, frame_leads}
@@ -131,4 +131,4 @@ pub images_lead : (t : ScannerTable) (event : Event) → is_datagram event ≡ f
 images_lead t (Frame stream bytes) none = frame_leads (Goes Images) t images_quietly stream bytes
 images_lead t (Datagram peer bytes) none = absurd (let e = none in cc)
 images_lead t (Write point bytes) none = write_leads (Goes Images) t (images_write t) point bytes
-images_lead t other none = bare_leads (Goes Images) (goes_widely Images images_slotwise) t other refl
+images_lead t other none = bare_leads (Goes Images) (goes_widely Images images_slotwise) (goes_taken Images images_slotwise) t other refl

@@ -1,6 +1,7 @@
 pub mod Openings
 pub mod OwnersFollowing
 pub mod OpeningIds
+pub mod OwnIncarnations
 pub mod Later
 pub mod LaterSlots
 pub mod OutputsWritten

@@ -20,7 +20,7 @@ use Rattle.segment_world.specs.declared.act.Act.TheVariants.{Local, Deliver, Nex
 use Rattle.segment_world.specs.declared.act.ActFault.{ActFault}
 use Rattle.segment_world.specs.Story.{events_of}
 use Rattle.segment_world.specs.Configs.{opening_world}
-use Rattle.schedule_laws.specs.Lives.{AreApart, AreLives}
+use Rattle.schedule_laws.specs.Lives.{AreApart, AreLives, GiveNoIds, HaveOwnIncarnations}
 use Rattle.device_laws.specs.Productions.{end_at, Production}
 use Rattle.schedule_laws.specs.Chronicle.{Acceptance, Chronicle, names, newest, then_act, chronicles, blank}
 
@@ -79,6 +79,13 @@ pub record IsChronicle (configs : List Config) (acts : List Act) (c : Chronicle)
   pub lives : AreLives configs
   pub ran : chronicles (Ok (blank (opening_world configs))) acts ≡ Ok c
   pub apart : AreApart c.story.world.tables
+
+-- Where each device begins with the ids of its own incarnation, and no act gives a further block, nothing is asked of the tables: each
+-- schedule of such lives has its chronicle.
+abbrev pub SchedulesWithoutIdsHaveChronicles : Type 0
+SchedulesWithoutIdsHaveChronicles =
+    (configs : List Config) (acts : List Act) (c : Chronicle) → AreLives configs → HaveOwnIncarnations configs → GiveNoIds acts →
+    chronicles (Ok (blank (opening_world configs))) acts ≡ Ok c → IsChronicle configs acts c
 
 abbrev pub KeepsHalfCircle : List Config → List Act → Type 0
 KeepsHalfCircle configs acts = HalfCircle (Ok (blank (opening_world configs))) acts

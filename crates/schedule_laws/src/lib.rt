@@ -38,7 +38,10 @@ pub use points::{
     accepted_data_were_written, applied_outputs_are_in_order, images_are_in_order,
     images_hold_accepted_data,
 };
-pub use restarts::{a_life_is_named_by_its_ids, a_new_life_takes_nothing_older};
+pub use restarts::{
+    a_life_is_named_by_its_ids, a_new_life_takes_nothing_older, schedules_without_ids_are_apart,
+    schedules_without_ids_have_chronicles,
+};
 pub use slot_openings::an_opening_number_names_one_slot;
 
 /// Between data of two connections that were applied to one output of an adapter, the first connection was closed or

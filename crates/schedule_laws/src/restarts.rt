@@ -1,5 +1,7 @@
 //! Lives of devices: a device that restarts is several devices of one schedule. Each call does nothing: its contract is the law.
 
+ghost use Rattle.schedule_laws.specs.Lives.{SchedulesWithoutIdsAreApart};
+ghost use Rattle.schedule_laws.specs.Order.{SchedulesWithoutIdsHaveChronicles};
 ghost use Rattle.schedule_laws.specs.Restarts.{LivesAreNamedByIds, NewLivesTakeNothingOlder};
 
 use crate::ids_are_drawn;
@@ -7,13 +9,30 @@ use crate::made_once::{an_id_opens_one_connection, ids_are_used_once};
 use crate::order::{an_id_names_one_producer, ids_name_openings};
 use crate::points::images_hold_accepted_data;
 use adapter_table::laws::profiles_stay;
-use cip_tables::laws::{blocks_grow, next_id_never_falls, tables_are_whole};
+use cip_tables::laws::{blocks_grow, blocks_stay, next_id_never_falls, tables_are_whole};
 use device_laws::{
     a_scanners_streams_come_with_events, answers_send_what_is_made, class3_ids_are_carried,
     connections_keep_their_ids, counters_never_fall, ids_are_carried, plain_devices_stay_plain,
     replies_carry_opened_ids, scanners_ask_for_their_own_ids, scanners_send_no_success,
     slots_have_the_ids_of_their_success,
 };
+
+/// No two devices have connection ids in common, if each begins with the ids of its own incarnation, and no act gives a device a
+/// further block. So the laws that ask it of the tables at the end of a schedule hold of each such schedule.
+///
+/// Volume 1, chapter 3, network connection ids.
+pub fn schedules_without_ids_are_apart()
+    ensures { SchedulesWithoutIdsAreApart }
+{
+    blocks_stay();
+}
+
+/// Each such schedule of lives has its chronicle, of which the laws of order speak. Nothing is asked of the tables at its end.
+pub fn schedules_without_ids_have_chronicles()
+    ensures { SchedulesWithoutIdsHaveChronicles }
+{
+    schedules_without_ids_are_apart();
+}
 
 /// A life is named by each connection id that it has drawn: two lives that have drawn one id are one life. Each connection id, of
 /// what was produced and of connections that were opened, is one that a life has drawn.

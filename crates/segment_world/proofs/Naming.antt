@@ -187,4 +187,4 @@ names configs moves h none unstated bytes is =
     let begins = begin_named (any_twice Incarnation configs) (any_twice Address configs) (first_fault configs) none in
     let named : Named h = subst (λ (o : Option PlantStory). IfSome o Named) is
     (moves_name moves (Some (fresh_story configs)) bytes (record { unstated = unstated; once = begins.0; good = begins.1 })) in
-    (named.once, named.good)
+    (named.once, named.good, named.unstated)

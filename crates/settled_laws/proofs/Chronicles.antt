@@ -11,17 +11,17 @@ use Rattle.schedule_laws.specs.Indexes.{ProducedInOrder}
 use Rattle.schedule_laws.specs.MadeOnce.{AnIdOpensOneConnection, SchedulesUseIdsOnce}
 use Rattle.schedule_laws.specs.Marks.{SchedulesFollowMarks}
 use Rattle.schedule_laws.specs.Names.{AnIdNamesOneOpening, SchedulesNameOpenings}
-use Rattle.schedule_laws.specs.Lives.{AreApart}
+use Rattle.schedule_laws.specs.Lives.{AreApart, SchedulesWithoutIdsAreApart}
 use Rattle.schedule_laws.specs.Order.{IsChronicle, ProducedAsWritten}
 use Rattle.schedule_laws.specs.Producers.{SchedulesNameOneProducer}
 use Rattle.schedule_laws.specs.Images.{GatheredInOrder, SchedulesGatherImages}
 use Rattle.schedule_laws.specs.Outputs.{AppliedInOrder}
-use Rattle.schedule_laws.specs.Lemmas.Lives.{worlds_are_lives}
+use Rattle.schedule_laws.specs.Lemmas.Lives.{worlds_are_lives, worlds_differ_in_incarnation}
 use Rattle.schedule_laws.specs.Lemmas.Stories.{chronicle_runs, story_in}
 use Rattle.settling.specs.Search.Histories.{configs_of, events_of_all}
 use Rattle.settling.specs.Search.Schedules.{Projects}
 use Rattle.settling.specs.Settlings.{AllStand}
-use Rattle.settled_laws.specs.Settled.{SchedulesHaveChronicles, IsInOrder, SettledLinesAreInOrder}
+use Rattle.settled_laws.specs.Settled.{SchedulesHaveChronicles, IsInOrder, SettledLinesAreInOrder, SettledWithoutIdsAreApart, SettledWithoutIdsAreInOrder}
 
 -- ---- a schedule without a fault
 
@@ -88,3 +88,13 @@ pub lines_in_order : OrderLaws → SettledLinesAreInOrder
 lines_in_order laws hs rs acts faultless settles apart =
     let happened = have_chronicles hs rs acts faultless settles apart in
     record { happened = happened; order = chronicle_in_order laws (configs_of hs) acts happened.chronicle happened.is }
+
+-- ---- without further ids
+
+pub without_ids_apart : SchedulesWithoutIdsAreApart → SettledWithoutIdsAreApart
+without_ids_apart law hs rs acts faultless unstated none settles =
+    law (configs_of hs) acts settles.settled.story (record { unstated = unstated; differ = worlds_differ_in_incarnation (configs_of hs) faultless }) none settles.settled.runs_so
+
+pub without_ids_in_order : SettledWithoutIdsAreApart → SettledLinesAreInOrder → SettledWithoutIdsAreInOrder
+without_ids_in_order apart order hs rs acts faultless unstated none settles =
+    order hs rs acts faultless settles (apart hs rs acts faultless unstated none settles)

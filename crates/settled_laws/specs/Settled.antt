@@ -6,7 +6,8 @@ use Rattle.device_lock.specs.declared.receipt.Receipt.{Receipt}
 use Rattle.device_lock.specs.Histories.{HistoryValue}
 use Rattle.segment_world.specs.declared.act.Act.{Act}
 use Rattle.segment_world.specs.Configs.{world_fault}
-use Rattle.schedule_laws.specs.Lives.{AreApart}
+use Rattle.segment_world.specs.Lives.Stories.{StateNoIds}
+use Rattle.schedule_laws.specs.Lives.{AreApart, GiveNoIds}
 use Rattle.schedule_laws.specs.Chronicle.{Chronicle}
 use Rattle.schedule_laws.specs.Devices.{DevicesStand}
 use Rattle.schedule_laws.specs.Indexes.{IsWellProduced}
@@ -38,6 +39,13 @@ SchedulesHaveChronicles =
     (hs : List HistoryValue) (rs : List Receipt) (acts : List Act) → world_fault (configs_of hs) ≡ None →
     (settles : SettlesAll hs rs acts) → AreApart settles.settled.story.world.tables → HasChronicle hs rs acts
 
+-- If no configuration states its ids, and no act of the schedule gives a device a further block, no two devices have connection ids
+-- in common.
+abbrev pub SettledWithoutIdsAreApart : Type 0
+SettledWithoutIdsAreApart =
+    (hs : List HistoryValue) (rs : List Receipt) (acts : List Act) → world_fault (configs_of hs) ≡ None → StateNoIds (configs_of hs) → GiveNoIds acts →
+    (settles : SettlesAll hs rs acts) → AreApart settles.settled.story.world.tables
+
 -- THE LAWS OF ORDER
 
 -- the laws of order, at a chronicle
@@ -65,3 +73,9 @@ abbrev pub SettledLinesAreInOrder : Type 0
 SettledLinesAreInOrder =
     (hs : List HistoryValue) (rs : List Receipt) (acts : List Act) → world_fault (configs_of hs) ≡ None →
     (settles : SettlesAll hs rs acts) → AreApart settles.settled.story.world.tables → HappenedInOrder hs rs acts
+
+-- So it is of each such schedule in which no device has stated ids or a further block.
+abbrev pub SettledWithoutIdsAreInOrder : Type 0
+SettledWithoutIdsAreInOrder =
+    (hs : List HistoryValue) (rs : List Receipt) (acts : List Act) → world_fault (configs_of hs) ≡ None → StateNoIds (configs_of hs) → GiveNoIds acts →
+    SettlesAll hs rs acts → HappenedInOrder hs rs acts

@@ -2,13 +2,13 @@
 //! of it. Each call does nothing: its contract is the law.
 #![tactic(auto)]
 
-ghost use Rattle.settled_laws.specs.Settled.{SchedulesHaveChronicles, SettledLinesAreInOrder};
+ghost use Rattle.settled_laws.specs.Settled.{SchedulesHaveChronicles, SettledLinesAreInOrder, SettledWithoutIdsAreApart, SettledWithoutIdsAreInOrder};
 
 use schedule_laws::{
     an_id_names_one_opening, an_id_names_one_producer, an_id_opens_one_connection,
     applied_outputs_are_in_order, devices_stand, ids_are_used_once, ids_name_openings,
     images_are_in_order, images_hold_accepted_data, outputs_are_as_written,
-    productions_are_numbered, streams_follow_their_marks,
+    productions_are_numbered, schedules_without_ids_are_apart, streams_follow_their_marks,
 };
 
 /// A schedule that settles histories and receipts has a chronicle. In its story the events of each device are the device's
@@ -40,4 +40,22 @@ pub fn settled_lines_are_in_order()
     images_hold_accepted_data();
     applied_outputs_are_in_order();
     images_are_in_order();
+}
+
+/// No two devices of a settled schedule have connection ids in common, if a world can be made of their configurations, none of which
+/// states ids, and no act gives a device a further block.
+///
+/// Volume 1, chapter 3, network connection ids.
+pub fn settled_devices_without_ids_are_apart()
+    ensures { SettledWithoutIdsAreApart }
+{
+    schedules_without_ids_are_apart();
+}
+
+/// So the laws of order hold of each such schedule, and nothing is asked of the tables at its end.
+pub fn settled_lines_without_ids_are_in_order()
+    ensures { SettledWithoutIdsAreInOrder }
+{
+    settled_devices_without_ids_are_apart();
+    settled_lines_are_in_order();
 }

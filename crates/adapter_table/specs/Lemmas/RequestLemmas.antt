@@ -88,7 +88,6 @@ pub record LimitedDo (R : AdapterTable → AdapterTable → Type 0) : Type 0 whe
   pub messaged : (t : AdapterTable) (next_id : ℕ) (m : Messaging) → MessagesGoOn t next_id m → R t (messages_table t next_id m)
   pub connected : (t : AdapterTable) (stream : Stream) (request : OpenFields) → class3_refusal (class3_view t stream.peer request.triad) request ≡ None → IsCarried t.streams stream.number → R t (class3_table t (opened_class3 t stream request))
   pub tallied : (t next : AdapterTable) (counters : DeviceCounters) → R t next → R t (with_counters next counters)
-  pub taken : (t : AdapterTable) (block : IdBlock) → may_take t.ids block ≡ true → R t (taken_table t block)
 
 pub limited_do : (R : AdapterTable → AdapterTable → Type 0) → RequestsDo R → LimitedDo R
 limited_do R does = record {
@@ -100,7 +99,6 @@ limited_do R does = record {
   messaged = does.messaged;
   connected = λ t stream request passes carried. does.counted t _ _ (does.messaged t (t.next_id + 1) _ (goes_opened t stream request passes carried));
   tallied = does.tallied;
-  taken = does.taken;
 }
 
 pub next_is : (x y : Next) → ◌≡◌ {A = Result Next StepFault} (Ok x) (Ok y) → x ≡ y

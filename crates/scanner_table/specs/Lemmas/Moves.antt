@@ -26,6 +26,7 @@ use Rattle.cip_events.specs.declared.event.StepFault.{StepFault}
 use Rattle.cip_events.specs.declared.event.StepFault.TheVariants as fault
 use Rattle.cip_events.specs.declared.event.Verdict.TheVariants.{Done}
 use Rattle.cip_events.specs.Answers.{plain_answer}
+use Rattle.cip_events.specs.Arrivals.{gives_ids}
 use Rattle.cip_events.specs.Clock.{longest_tick, clock_end}
 use Rattle.cip_fwdopen.specs.declared.reply.Opened as made
 use Rattle.cip_fwdopen.specs.declared.reply.OpenAnswer.{OpenAnswer}
@@ -109,7 +110,10 @@ pub record KeptWidely (R : ScannerTable → ScannerTable → Type 0) : Type 0 wh
   pub producing : (t : ScannerTable) → R t (produced_table t)
   pub moding : (t : ScannerTable) (run : Bool) → R t (moded_table t run)
   pub explicit : (t : ScannerTable) (pending : List PendingExplicit) (request : ℕ) → t.next_request ≤ request → R t (record t { next_request = request; explicit = pending })
-  pub taken : (t : ScannerTable) (block : IdBlock) → may_take t.ids block ≡ true → R t (taken_table t block)
+
+-- a further block of ids makes it too
+abbrev pub Takes : (ScannerTable → ScannerTable → Type 0) → Type 0
+Takes R = (t : ScannerTable) (block : IdBlock) → may_take t.ids block ≡ true → R t (taken_table t block)
 
 -- a slot is established by the reply to its opening
 abbrev pub Establishes : (ScannerTable → ScannerTable → Type 0) → ScannerTable → Type 0
@@ -133,6 +137,7 @@ Accepts R t = (indexed : IndexedSlot) (d : DatagramFields) (c : SlotConnection) 
 -- it holds in all cases
 pub record KeptAlways (R : ScannerTable → ScannerTable → Type 0) : Type 0 where
   pub widely : KeptWidely R
+  pub taken : Takes R
   pub establishing : (t : ScannerTable) → Establishes R t
   pub writing : (t : ScannerTable) → Writes R t
   pub accepting : (t : ScannerTable) → Accepts R t
@@ -482,13 +487,13 @@ unfolding stream_cut
 cut_leads R kept t number = cut_of_leads R kept t (find (is_stream number) t.streams)
 
 -- further ids come
-ids_step : (b : Bool) (R : ScannerTable → ScannerTable → Type 0) → KeptWidely R → (t : ScannerTable) (block : IdBlock) → may_take t.ids block ≡ b → Leads R t (cond b (Ok (plain_answer Done, taken_table t block)) (Err fault.NotAllowedNow))
-ids_step true R kept t block may = kept.taken t block may
-ids_step false R kept t block may = tt
+ids_step : (b : Bool) (R : ScannerTable → ScannerTable → Type 0) → Takes R → (t : ScannerTable) (block : IdBlock) → may_take t.ids block ≡ b → Leads R t (cond b (Ok (plain_answer Done, taken_table t block)) (Err fault.NotAllowedNow))
+ids_step true R takes t block may = takes t block may
+ids_step false R takes t block may = tt
 
-ids_leads : (R : ScannerTable → ScannerTable → Type 0) → KeptWidely R → (t : ScannerTable) (block : IdBlock) → Leads R t (take_ids t block)
+ids_leads : (R : ScannerTable → ScannerTable → Type 0) → Takes R → (t : ScannerTable) (block : IdBlock) → Leads R t (take_ids t block)
 unfolding take_ids
-ids_leads R kept t block = ids_step (may_take t.ids block) R kept t block refl
+ids_leads R takes t block = ids_step (may_take t.ids block) R takes t block refl
 
 -- an event that leaves the table as it is
 pub passive_leads : (R : ScannerTable → ScannerTable → Type 0) → Kept R → (t : ScannerTable) (event : Event) → is_passive event ≡ true → Leads R t (scanner_step t event)
@@ -682,26 +687,43 @@ brings_bytes (Datagram peer bytes) = true
 brings_bytes (Write point bytes) = true
 brings_bytes other = false
 
--- each other event makes no more than streams, time, productions, modes, explicit requests and changes of single slots
-pub bare_leads : (R : ScannerTable → ScannerTable → Type 0) → KeptWidely R → (t : ScannerTable) (event : Event) → brings_bytes event ≡ false → Leads R t (scanner_step t event)
-bare_leads R kept t (StreamOpened stream peer) bare = streamed_leads R kept t stream peer
-bare_leads R kept t (Frame stream bytes) bare = absurd (let e = bare in cc)
-bare_leads R kept t (StreamCut stream) bare = cut_leads R kept t stream
-bare_leads R kept t (Datagram peer bytes) bare = absurd (let e = bare in cc)
-bare_leads R kept t (Write point bytes) bare = absurd (let e = bare in cc)
-bare_leads R kept t (Tick ms) bare = tick_leads R kept t ms
-bare_leads R kept t (Mode run) bare = mode_leads R kept t run
-bare_leads R kept t (Start slot) bare = start_leads R kept.slots t slot
-bare_leads R kept t (Stop slot) bare = stop_leads R kept.slots t slot
-bare_leads R kept t (Explicit target number bytes) bare = explicit_leads R kept t target number bytes
-bare_leads R kept t (Ids block) bare = ids_leads R kept t block
-bare_leads R kept t other bare = passive_leads R kept.slots t other refl
+-- each other event that gives no block of ids makes no more than streams, time, productions, modes, explicit requests and changes of
+-- single slots
+quiet_leads : (R : ScannerTable → ScannerTable → Type 0) → KeptWidely R → (t : ScannerTable) (event : Event) → brings_bytes event ≡ false → gives_ids event ≡ false → Leads R t (scanner_step t event)
+quiet_leads R kept t (StreamOpened stream peer) bare none = streamed_leads R kept t stream peer
+quiet_leads R kept t (Frame stream bytes) bare none = absurd (let e = bare in cc)
+quiet_leads R kept t (StreamCut stream) bare none = cut_leads R kept t stream
+quiet_leads R kept t (Datagram peer bytes) bare none = absurd (let e = bare in cc)
+quiet_leads R kept t (Write point bytes) bare none = absurd (let e = bare in cc)
+quiet_leads R kept t (Tick ms) bare none = tick_leads R kept t ms
+quiet_leads R kept t (Mode run) bare none = mode_leads R kept t run
+quiet_leads R kept t (Start slot) bare none = start_leads R kept.slots t slot
+quiet_leads R kept t (Stop slot) bare none = stop_leads R kept.slots t slot
+quiet_leads R kept t (Explicit target number bytes) bare none = explicit_leads R kept t target number bytes
+quiet_leads R kept t (Ids block) bare none = absurd (let e = none in cc)
+quiet_leads R kept t other bare none = passive_leads R kept.slots t other refl
 
-in_all_cases : (R : ScannerTable → ScannerTable → Type 0) → KeptAlways R → (t : ScannerTable) → OrEstablished R R t
+pub bare_leads : (R : ScannerTable → ScannerTable → Type 0) → KeptWidely R → Takes R → (t : ScannerTable) (event : Event) → brings_bytes event ≡ false → Leads R t (scanner_step t event)
+bare_leads R kept takes t (Ids block) bare = ids_leads R takes t block
+bare_leads R kept takes t other bare = quiet_leads R kept t other bare refl
+
+-- what makes it without further ids
+pub record KeptElse (R : ScannerTable → ScannerTable → Type 0) : Type 0 where
+  pub widely : KeptWidely R
+  pub establishing : (t : ScannerTable) → Establishes R t
+  pub writing : (t : ScannerTable) → Writes R t
+  pub accepting : (t : ScannerTable) → Accepts R t
+
+in_all_cases : (R : ScannerTable → ScannerTable → Type 0) → KeptElse R → (t : ScannerTable) → OrEstablished R R t
 in_all_cases R kept t = record { kept = kept.widely; weaker = λ u is. is; establishing = kept.establishing t }
 
+pub else_leads : (R : ScannerTable → ScannerTable → Type 0) → KeptElse R → (t : ScannerTable) (event : Event) → gives_ids event ≡ false → Leads R t (scanner_step t event)
+else_leads R kept t (Frame stream bytes) none = frame_leads R R t (in_all_cases R kept t) stream bytes
+else_leads R kept t (Datagram peer bytes) none = received_leads R t (kept.widely.slots.same t) (kept.accepting t) peer bytes
+else_leads R kept t (Write point bytes) none = write_leads R t (kept.writing t) point bytes
+else_leads R kept t other none = quiet_leads R kept.widely t other refl none
+
 pub step_leads : (R : ScannerTable → ScannerTable → Type 0) → KeptAlways R → (t : ScannerTable) (event : Event) → Leads R t (scanner_step t event)
-step_leads R kept t (Frame stream bytes) = frame_leads R R t (in_all_cases R kept t) stream bytes
-step_leads R kept t (Datagram peer bytes) = received_leads R t (kept.widely.slots.same t) (kept.accepting t) peer bytes
-step_leads R kept t (Write point bytes) = write_leads R t (kept.writing t) point bytes
-step_leads R kept t other = bare_leads R kept.widely t other refl
+step_leads R kept t (Ids block) = ids_leads R kept.taken t block
+step_leads R kept t other =
+    else_leads R (record { widely = kept.widely; establishing = kept.establishing; writing = kept.writing; accepting = kept.accepting }) t other refl

@@ -27,7 +27,7 @@ use Rattle.scanner_table.specs.Productions.{produced_slot, produced_table}
 use Rattle.scanner_table.specs.Ticks.{clocked_table}
 use Rattle.scanner_table.specs.Runs.{OfEachSlot, OfEachChange}
 use Rattle.scanner_table.specs.Lemmas.SlotLookups.{get_same, get_other, Stands, indexed_at, slot_is, slot_stands, IsIndexed}
-use Rattle.scanner_table.specs.Lemmas.Moves.{BecomesIdle, link_in, BecomesTimedOut, Kept, KeptWidely, IsAccepted, KeptAlways}
+use Rattle.scanner_table.specs.Lemmas.Moves.{BecomesIdle, link_in, BecomesTimedOut, Kept, KeptWidely, Takes, IsAccepted, KeptAlways}
 
 -- ---- later tables
 
@@ -228,8 +228,10 @@ goes_widely S by = record {
   producing = produced_goes S by.producing;
   moding = moded_goes S by.moding;
   explicit = λ t pending request later. stays_goes S by.stays t (record t { next_request = request; explicit = pending }) (record { profile = refl; blocks = extends_itself t.ids; ids = omega arith; requests = later; clock = omega arith }) refl;
-  taken = λ t block may. stays_goes S by.stays t (taken_table t block) (record { profile = refl; blocks = block_extends t.ids block may; ids = omega arith; requests = omega arith; clock = omega arith }) refl;
 }
+
+pub goes_taken : (S : Relation) → Slotwise S → Takes (Goes S)
+goes_taken S by t block may = stays_goes S by.stays t (taken_table t block) (record { profile = refl; blocks = block_extends t.ids block may; ids = omega arith; requests = omega arith; clock = omega arith }) refl
 
 -- the premises where a slot becomes established, is written, or accepts a datagram
 pub record SlotwiseAlways (S : Relation) : Type 0 where
@@ -241,6 +243,7 @@ pub record SlotwiseAlways (S : Relation) : Type 0 where
 pub goes_always : (S : Relation) → SlotwiseAlways S → KeptAlways (Goes S)
 goes_always S by = record {
   widely = goes_widely S by.widely;
+  taken = goes_taken S by.widely;
   establishing = λ t indexed o success stands is requested.
       let slot = established_slot indexed (new_connection t indexed o success) in
       set_goes S by.widely.stays t t indexed slot (set_later t indexed.number slot) refl stands (by.establishing t indexed o success is requested);

@@ -28,3 +28,11 @@ address_step false false configs wrong is none = is
 
 pub worlds_differ_in_address : (configs : List Config) → world_fault configs ≡ None → DifferInAddress configs
 worlds_differ_in_address configs none = address_step (any_twice Incarnation configs) (any_twice Address configs) configs (profile_fault_of (first_fault configs)) refl none
+
+incarnation_step : (a : Bool) (configs : List Config) (wrong : Option WorldFault) → any_twice Incarnation configs ≡ a → cond a (Some SameIncarnation) wrong ≡ None → any_twice Incarnation configs ≡ false
+incarnation_step true configs wrong is none = absurd (let e = none in cc)
+incarnation_step false configs wrong is none = is
+
+pub worlds_differ_in_incarnation : (configs : List Config) → world_fault configs ≡ None → any_twice Incarnation configs ≡ false
+worlds_differ_in_incarnation configs none =
+    incarnation_step (any_twice Incarnation configs) configs (cond (any_twice Address configs) (Some SameNode) (profile_fault_of (first_fault configs))) refl none

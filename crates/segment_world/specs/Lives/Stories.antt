@@ -132,8 +132,8 @@ pub record Grows (was now : PlantStory) : Type 0 where
 abbrev pub StoriesGrow : Type 0
 StoriesGrow = (moves : List Move) (was now : PlantStory) → plays (Some was) moves ≡ Some now → Grows was now
 
--- Where no profile states its connection ids, no two lives have one incarnation byte, and no profile has a fault.
+-- Where no profile states its connection ids, no two lives have one incarnation byte, no profile has a fault, and none states its ids.
 abbrev pub IncarnationsNameLives : Type 0
 IncarnationsNameLives =
     (configs : List Config) (moves : List Move) (h : PlantStory) → world_fault configs ≡ None → StateNoIds configs → AllByRecursion IsByteMove moves → IsStory configs moves h →
-    (any_twice Incarnation h.plant.configs ≡ false) × (first_fault h.plant.configs ≡ None)
+    (any_twice Incarnation h.plant.configs ≡ false) × (first_fault h.plant.configs ≡ None) × StateNoIds h.plant.configs
