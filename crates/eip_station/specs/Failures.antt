@@ -34,8 +34,8 @@ use Rattle.eip_station.specs.declared.failure.Subject.{Subject}
 use Rattle.eip_station.specs.declared.failure.Subject.TheVariants as subject
 
 -- 1 after an early end, where the output takes nothing or no device answers, 2 after a wrong word, 3 after a bad profile or state, 4 after an
--- address that is none, 5 where a socket cannot be made, 6 where the record or the state cannot be written, 7 where there is
--- no memory
+-- address that is none, 5 where a socket cannot be made, 6 where the record, the state or the report cannot be written, 7 where
+-- there is no memory, 8 where a script has not passed
 abbrev pub status_of : Failure → ℕ
 status_of (failure.Early end) = 1
 status_of failure.Output = 1
@@ -54,12 +54,15 @@ status_of failure.WrongKind = 3
 status_of failure.Unserved = 3
 status_of (failure.UnreadState why) = 3
 status_of failure.State = 3
+status_of failure.Script = 3
 status_of (failure.Socket socket cause.NoAddress place) = 4
 status_of (failure.Socket socket _ place) = 5
 status_of failure.Token = 5
 status_of failure.Record = 6
 status_of failure.RecordEnd = 6
 status_of failure.NoState = 6
+status_of failure.Report = 6
+status_of failure.Unpassed = 8
 status_of failure.Thread = 7
 status_of failure.OutOfMemory = 7
 
@@ -71,6 +74,8 @@ is_reported failure.Unheard = true
 is_reported (failure.UnreadState why) = true
 is_reported failure.State = true
 is_reported failure.NoState = true
+is_reported failure.Script = true
+is_reported failure.Unpassed = true
 is_reported failure.RecordEnd = true
 is_reported (failure.Plant why) = is_plant_reported why
 is_reported other = false

@@ -77,6 +77,15 @@ pub enum Failure {
     /// The record cannot be made.
     #[error("cannot be written")]
     Record,
+    /// The file of the script is not read, or is none, of which a line has told.
+    #[error("is no script")]
+    Script,
+    /// The report on the script cannot be written.
+    #[error("the report cannot be written")]
+    Report,
+    /// The script has not passed, of which lines have told.
+    #[error("the script has not passed")]
+    Unpassed,
     /// The record has ended before its station.
     #[error("the record cannot take more and has ended")]
     RecordEnd,
@@ -122,12 +131,15 @@ pub fn status_of(failure: Failure) -> u8
         Failure::Unserved => 3,
         Failure::UnreadState(_) => 3,
         Failure::State => 3,
+        Failure::Script => 3,
         Failure::Socket(_, SocketCause::NoAddress, _) => 4,
         Failure::Socket(_, _, _) => 5,
         Failure::Token => 5,
         Failure::Record => 6,
         Failure::RecordEnd => 6,
         Failure::NoState => 6,
+        Failure::Report => 6,
+        Failure::Unpassed => 8,
         Failure::Thread => 7,
         Failure::OutOfMemory => 7,
     }
@@ -297,6 +309,8 @@ pub fn is_reported(failure: Failure) -> bool
         Failure::UnreadState(_) => true,
         Failure::State => true,
         Failure::NoState => true,
+        Failure::Script => true,
+        Failure::Unpassed => true,
         Failure::RecordEnd => true,
         _ => false,
     }

@@ -22,6 +22,8 @@ abbrev pub status_of : PlantFailure → ℕ
 status_of (failure.Unread why) = 3
 status_of failure.Bad = 3
 status_of failure.Folder = 6
+status_of failure.Report = 6
+status_of failure.Script = 8
 status_of (failure.Device why) = device_status why
 status_of failure.Clock = 1
 status_of failure.OutOfMemory = 7
@@ -30,6 +32,7 @@ status_of failure.OutOfMemory = 7
 abbrev pub is_reported : PlantFailure → Bool
 is_reported failure.Bad = true
 is_reported (failure.Device why) = true
+is_reported failure.Script = true
 is_reported other = false
 
 -- why the file of a plant is not read

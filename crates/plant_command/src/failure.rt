@@ -22,6 +22,12 @@ pub enum PlantFailure {
     /// The folder of the records cannot be made.
     #[error("the folder of the records cannot be made")]
     Folder,
+    /// The report on its scripts cannot be written.
+    #[error("the report cannot be written")]
+    Report,
+    /// A script has not passed, of which lines have told.
+    #[error("a script has not passed")]
+    Script,
     /// A device has failed, of which a line has told.
     #[error("a device has failed: {0}")]
     Device(DeviceFailure),
@@ -42,6 +48,8 @@ impl PlantFailure {
             PlantFailure::Unread(_) => 3,
             PlantFailure::Bad => 3,
             PlantFailure::Folder => 6,
+            PlantFailure::Report => 6,
+            PlantFailure::Script => 8,
             PlantFailure::Device(failure) => device_status(failure),
             PlantFailure::Clock => 1,
             PlantFailure::OutOfMemory => 7,
@@ -55,6 +63,7 @@ impl PlantFailure {
         match self {
             PlantFailure::Bad => true,
             PlantFailure::Device(_) => true,
+            PlantFailure::Script => true,
             _ => false,
         }
     }

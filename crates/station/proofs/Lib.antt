@@ -1,3 +1,4 @@
+mod CheckSamples
 mod Exactness
 mod Living
 mod Noting
