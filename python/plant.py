@@ -22,6 +22,7 @@ from dataclasses import dataclass, field
 from typing import Any, Callable, Optional
 
 from eip import Answer, Datagram, Delivery, Device, Notice, Refused, StreamNotice
+from plant_script import ScriptRun, read_script
 
 
 @dataclass(frozen=True)
@@ -50,6 +51,9 @@ class Member:
         self._began_ms = plant.now_ms
         self._wake_ms = -1
         self._streams: dict[int, _Stream] = {}
+        self._resume_ms = 0
+        self.script_run: Optional[ScriptRun] = None
+        """Its script, if it has one."""
 
     def __repr__(self) -> str:
         return f"<{self.name}>"
@@ -112,6 +116,45 @@ class Member:
             if self in stream.ends:
                 stream.go_on()
 
+    def pause(self, ms: int) -> None:
+        """The device takes nothing and sends nothing for so long; then it takes what has waited."""
+        self._resume_ms = self.plant.now_ms + ms
+
+    @property
+    def is_paused(self) -> bool:
+        """Whether the device takes nothing now."""
+        return self.plant.now_ms < self._resume_ms
+
+    @property
+    def clock_ms(self) -> int:
+        """The time of the plant up to which the device has come: its clock."""
+        return self._began_ms + self.device.now_ms
+
+    def pass_time(self) -> None:
+        """Gives the device the time that has passed, unless it pauses."""
+        if not self.is_paused:
+            self._catch_up()
+            self._plan_wake()
+
+    def cut(self) -> None:
+        """Each stream of the device breaks."""
+        for stream in list(self.plant.streams):
+            if self in stream.ends:
+                stream.cut()
+
+    def send(self, node: str, data: bytes) -> None:
+        """A datagram of these bytes is sent from the device's address, whatever they are."""
+        member = self.plant.members.get(node)
+        if member is not None:
+            self.plant.at(self.plant.now_ms + self.plant.delay(), self.plant._arrive, member, self.node, data)
+
+    def script(self, text: str) -> ScriptRun:
+        """Has the device do what the lines of a script say, from now on, and judges what they expect (`plant_script.py`)."""
+        run = ScriptRun(self, read_script(text))
+        self.script_run = run
+        run.plan()
+        return run
+
     def _perform(self, call: Callable[[], Answer]) -> Answer:
         """One event at the present time, whose answer is sent."""
         self._catch_up()
@@ -137,6 +180,9 @@ class Member:
     def _wake(self, planned_ms: int) -> None:
         """A tick that the device needs. Another event may have planned a later one."""
         if self._wake_ms != planned_ms:
+            return
+        if self.is_paused:
+            self.plant.at(self._resume_ms, self._wake, planned_ms)
             return
         self._wake_ms = -1
         late = self.plant.now_ms - self._began_ms - self.device.now_ms
@@ -197,7 +243,9 @@ class _Stream:
 
     def _take(self, end: _End) -> None:
         """The first item that waits for an end arrives."""
-        if not all(member.is_plugged for member in self.ends):
+        if end.member.is_paused:
+            self.plant.at(end.member._resume_ms, self._take, end)
+        elif not all(member.is_plugged for member in self.ends):
             end.held += 1
         elif end.waiting:
             item = end.waiting.popleft()
@@ -340,9 +388,18 @@ class Plant:
         while planned and planned[0][0] <= end_ms:
             self.now_ms, _, action, words = heapq.heappop(planned)
             action(*words)
+            self._look()
         self.now_ms = max(self.now_ms, end_ms)
         for member in self.members.values():
-            member._catch_up()
+            if not member.is_paused:
+                member._catch_up()
+        self._look()
+
+    def _look(self) -> None:
+        """Judges what the scripts expect."""
+        for member in self.members.values():
+            if member.script_run is not None:
+                member.script_run.look()
 
     def delay(self) -> int:
         """Draws the delay of one message."""
@@ -362,7 +419,9 @@ class Plant:
                 self.at(self.now_ms + self.delay(), self._arrive, member, sender.node, datagram.data)
 
     def _arrive(self, member: Member, peer: str, data: bytes) -> None:
-        if member.is_plugged:
+        if member.is_paused:
+            self.at(member._resume_ms, self._arrive, member, peer, data)
+        elif member.is_plugged:
             member.datagram(peer, data)
 
     def close(self) -> None:

@@ -8,6 +8,7 @@ import io
 import os
 import pathlib
 import re
+import sys
 import threading
 import types
 import typing
@@ -15,6 +16,7 @@ import unittest
 
 import eip
 import plant
+import plant_script
 import trace_lines
 from eip import (
     Answer, AnswerKept, AskedRequest, BadLine, BadProfile, Connection, ConnectionKind, ConnectionNotice, Datagram, Delivery, Device,
@@ -23,6 +25,7 @@ from eip import (
     StreamNotice, Verdict, inquiry, node_number, node_text, read_answer,
 )
 from plant import Faults, Plant
+from plant_script import BadScript, Judgement, judged, read_script, report_text
 from trace_lines import RecordedDevice, outcome_lines
 
 TOP = pathlib.Path(__file__).resolve().parent.parent
@@ -746,9 +749,147 @@ class Plants(unittest.TestCase):
         self.assertNotEqual(traces(1), traces(2))
 
 
+class Scripts(unittest.TestCase):
+    """Section 39. The watchdog of the owner is 16 times 10 ms, and its last datagram in front of a pause at 3005 is that of 3000."""
+
+    def bench(self, stop="at 3005 pause 1000", end_ms=4000):
+        bench = Plant()
+        self.addCleanup(bench.close)
+        island, scanner = bench.add(Device(ADAPTER), "island"), bench.add(Device(SCANNER), "controller")
+        bench.connect(scanner, island)
+        scanner.start(0)
+        scanner.script(f"at 0 mode run\nat 0 write 0 11223344\n{stop}")
+        return bench, island, scanner, lambda: bench.run_until(end_ms)
+
+    def test_a_machine_stop_is_safe_within_twice_the_watchdog(self):
+        _, island, _, run = self.bench()
+        stop = island.script("""
+            at 3000 expect owner 150 run
+            at 3000 expect output 150 = 11223344
+            at 3005 expect within 320 owner 150 lost
+            at 3005 expect within 320 output 150 = 00000000
+            when owner 150 lost do expect output 150 = 00000000
+        """)
+        run()
+        self.assertEqual(stop.said, [
+            (3000, "met 1 owner 150 run after 0"), (3000, "met 2 output 150 = 11223344 after 0"),
+            (3160, "met 3 owner 150 lost after 155"), (3160, "met 4 output 150 = 00000000 after 155"),
+            (3160, "met 5 output 150 = 00000000 after 0"),
+        ])
+        self.assertTrue(stop.has_passed)
+        self.assertEqual(stop.words(), "island: its script has passed: 5 lines judge, 0 failed, 0 skipped")
+
+    def test_a_deadline_can_be_met_at_its_last_moment_and_not_behind_it(self):
+        # (it is lost at 3160: 155 behind 3005)
+        for within, said in (155, [(3160, "met 1 owner 150 lost after 155")]), (154, [(3160, "failed 1 owner 150 lost within 154, but lost")]):
+            _, island, _, run = self.bench()
+            stop = island.script(f"at 3005 expect within {within} owner 150 lost")
+            run()
+            self.assertEqual((stop.said, stop.has_passed), (said, within == 155))
+
+    def test_what_is_there_in_place_of_what_is_expected_is_said(self):
+        _, island, scanner, run = self.bench("")
+        lines = island.script("""
+            at 2000 expect within 10 output 150 = 00
+            at 2000 expect owner 150 idle
+            at 2000 expect owner 150 of 192.168.1.21
+            at 2000 expect output 77 = 00
+            at 2000 expect owner 77 none
+            at 2000 expect slot 0 idle
+        """)
+        slots = scanner.script("at 2000 expect slot 0 idle\nat 2000 expect image 0 = -\nat 2000 expect output 0 = 00000000")
+        run()
+        self.assertEqual([line.failure for line in lines.lines], [
+            "output 150 = 00 within 10, but 11223344", "owner 150 idle, but of 192.168.1.20 run",
+            "owner 150 of 192.168.1.21, but of 192.168.1.20 run", "output 77 = 00, but no such point", "owner 77 none, but no such point",
+            "slot 0 idle, but no such slot",
+        ])
+        self.assertEqual([line.failure for line in slots.lines], [
+            "slot 0 idle, but established", "image 0 = -, but 00000000", "output 0 = 00000000, but 00000000",
+        ])
+
+    def test_pass_and_fail_decide_a_script(self):
+        _, island, _, run = self.bench("")
+        passed = island.script("at 1000 expect owner 150 run\nat 2000 pass\nat 3000 expect owner 150 none\nat 3500 fail too late")
+        run()
+        self.assertEqual(passed.said, [(1000, "met 1 owner 150 run after 0"), (2000, "passed 2")])
+        self.assertEqual([verdict.value for _, verdict in passed.verdicts()], ["passed", "passed", "skipped", "passed"])
+        _, island, _, run = self.bench("")
+        failed = island.script("when owner 150 run do fail it has an owner\nat 2000 pass")
+        run()
+        self.assertEqual(failed.words().splitlines(), [
+            "island: script line 1: fail it has an owner: it has an owner", "island: its script has not passed: 2 lines judge, 1 failed, 1 skipped"])
+
+    def test_a_line_that_was_not_reached_has_not_passed(self):
+        _, island, _, run = self.bench("")
+        run_ = island.script("at 9000 expect owner 150 run\nwhen owner 150 lost do expect output 150 = 00000000")
+        run()
+        self.assertEqual((run_.has_passed, [verdict.value for _, verdict in run_.verdicts()]), (False, ["not reached", "not reached"]))
+
+    def test_lines_that_come_again_and_calls_behind_a_condition(self):
+        _, island, _, run = self.bench("")
+        lines = island.script("every 1000 expect owner 150 run\nat 500 when owner 150 run do write 100 01020304\nat 2000 expect output 100 = 01020304")
+        run()
+        self.assertEqual((lines.lines[0].met, lines.has_passed), (4, True))
+
+    def test_bad_lines_have_their_sentences(self):
+        for text, line, wrong in [
+            ("at soon pass", 1, "a time is a number of milliseconds up to 4294967295, and behind every it is not 0"),
+            ("# a\n\nevery 0 pass", 3, "a time is a number of milliseconds up to 4294967295, and behind every it is not 0"),
+            ("device a b", 1, "a line of a script begins with at, every or when"),
+            ("when owner 150 lost write 100 01", 1, "behind when is a condition, and do, and what is done"),
+            ("at 1 fail ", 1, "behind fail is a text of 1 to 200 bytes without control characters"),
+            ("at 1 pass\nat 1 expect slot 0 open", 2, plant_script._NO_CONDITION),
+            ("at 1 expect within x slot 0 idle", 1, plant_script._NO_TIME),
+            ("at 1 restart", 1, plant_script._NO_CALL),
+        ]:
+            with self.assertRaises(BadScript) as bad:
+                read_script(text)
+            self.assertEqual((bad.exception.line, bad.exception.wrong), (line, wrong), text)
+        with self.assertRaises(BadScript):
+            read_script("at 1 pass\n" * 257)
+
+    def test_a_judgement_is_that_of_the_moment(self):
+        self.assertEqual([judged(True, 2500, 2500), judged(False, 2500, 2500), judged(False, 2501, 2500), judged(True, 2501, 2500)],
+                         [Judgement.MET, Judgement.WAITING, Judgement.FAILED, Judgement.FAILED])
+
+    def test_the_report_is_xml(self):
+        _, island, _, run = self.bench("")
+        failed = island.script('at 100 fail a<b & "c">')
+        run()
+        self.assertEqual(report_text([failed]), '''<?xml version="1.0" encoding="UTF-8"?>
+<testsuites>
+  <testsuite name="island" tests="1" failures="1" skipped="0">
+    <testcase classname="island" name="1: fail a&lt;b &amp; &quot;c&quot;&gt;" time="0.000">
+      <failure message="a&lt;b &amp; &quot;c&quot;&gt;"/>
+    </testcase>
+  </testsuite>
+</testsuites>
+''')
+
+    def test_somebody_elses_adapter_that_keeps_its_output_fails_with_a_sentence(self):
+        """The owner pauses at 3000; the watcher opens once the target has dropped it, and reads the output, which the input repeats."""
+        sys.path.append(str(TOP / "tools" / "peers"))
+        from virtual_adapter import VirtualAdapter
+        owner = "scanner 1 192.168.1.21 0 7 1000 1000\nslot 192.168.1.11 exclusive - 150 100 4 4 10000 10000 2 p2p - -\n"
+        watcher = "scanner 1 192.168.1.22 0 8 1000 1000\nslot 192.168.1.11 input - 152 100 0 4 10000 10000 2 p2p - -\n"
+        for keeps, failure in (False, None), (True, "image 0 = 00000000, but 11223344"):
+            with Plant() as bench:
+                target = bench.add(VirtualAdapter("192.168.1.11", keeps), "target")
+                owners, watchers = bench.add(Device(owner), "owner"), bench.add(Device(watcher), "watcher")
+                for scanner in owners, watchers:
+                    bench.connect(scanner, target)
+                    scanner.start(0)
+                first = owners.script("at 0 mode run\nat 0 write 0 11223344\nat 2000 expect image 0 = 11223344\nat 3000 pause 9000")
+                last = watchers.script("at 7000 expect slot 0 established\nat 7000 expect image 0 = 00000000")
+                bench.run_until(7500)
+                self.assertTrue(first.has_passed, first.words())
+                self.assertEqual([line.failure for line in last.lines], [None, failure])
+
+
 class Documents(unittest.TestCase):
     def test_every_public_name_is_typed_and_documented(self):
-        for module in eip, plant, trace_lines:
+        for module in eip, plant, plant_script, trace_lines:
             for name, it in vars(module).items():
                 if name.startswith("_") or getattr(it, "__module__", None) != module.__name__ or not callable(it):
                     continue
