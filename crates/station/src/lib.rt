@@ -23,7 +23,8 @@ pub use fault::EarlyEnd;
 pub use observer::StationObserver;
 pub use script::{
     Decision, DueLine, DueTime, LineCheck, LineWait, ScriptAct, ScriptChecks, ScriptLine,
-    ScriptReport, ScriptRun, ScriptState, push_line, times_are_exact, waits_are_exact,
+    ScriptReport, ScriptRun, ScriptState, look_waits_are_exact, push_line, times_are_exact,
+    waits_are_exact,
 };
 pub use serving::{Reporting, Station};
 pub use sources::{DeviceSteps, InputSteps, StepSource, TypedSteps};

@@ -10,7 +10,7 @@ mod state;
 mod texts;
 
 pub use checks::{Decision, LineCheck, LineWait, ScriptChecks};
-pub use laws::{times_are_exact, waits_are_exact};
+pub use laws::{look_waits_are_exact, times_are_exact, waits_are_exact};
 pub use lines::{DueTime, ScriptAct, ScriptLine};
 pub use report::ScriptReport;
 pub use run::{DueLine, ScriptRun};

@@ -1,6 +1,6 @@
 -- The step that a script has for its device at a look, and what is left of the script: first what the look decides, then the line that
 -- is due.
-use Rattle.std.specs.Prelude.{ℕ, ◌-◌, ◌≡◌, min, slice_get, if◌then◌else◌, true, List, Option, Some, None}
+use Rattle.std.specs.Prelude.{ℕ, ◌+◌, ◌-◌, ◌^◌, ◌<◌, ◌≤◌, ◌≡◌, min, length, slice_get, if◌then◌else◌, true, List, Option, Some, None}
 use Rattle.cip_tables.specs.declared.table.DeviceTable.{DeviceTable}
 use Rattle.script_checks.specs.declared.condition.Condition.{Condition}
 use Rattle.script_checks.specs.declared.judging.ExpectationState.{ExpectationState}
@@ -161,3 +161,20 @@ least_wait now wait None = wait
 -- the wait until a line is due, or until one can fail, of at most so many milliseconds
 abbrev pub state_wait : ScriptState → (now most : ℕ) → List ScriptLine → ℕ
 state_wait state now most script = least_wait now (wait_of state.run now most script) (first_expiry state.checks)
+
+-- nothing is decided at a time about a device that stays as it is, and no line is due
+abbrev pub NothingComes : DeviceTable → ScriptState → List ScriptLine → (time : ℕ) → Type 0
+NothingComes table state script time = (first_decided table time script state.checks ≡ None) × (taken state.run time script ≡ None)
+
+-- While a turn waits so long nothing comes. A wait that is shorter than the longest ends when something does.
+abbrev pub IsExactLookWait : DeviceTable → ScriptState → (now most : ℕ) → List ScriptLine → (wait : ℕ) → Type 0
+IsExactLookWait table state now most script wait =
+    (wait ≤ most)
+    × (((time : ℕ) → now ≤ time → time < now + wait → time < 2 ^ 64 → NothingComes table state script time)
+    × (wait < most → now + wait < 2 ^ 64 - 1 → NothingComes table state script (now + wait) → ⊥))
+
+-- Behind a look that decided nothing each wait is exact, unless the clock went back behind the line that was taken last.
+abbrev pub LookWaitsAreExact : Type 0
+LookWaitsAreExact = (table : DeviceTable) (state : ScriptState) (now most : ℕ) (script : List ScriptLine) →
+    state.run.ms ≤ now → length state.checks.lines ≡ length script → first_decided table now script state.checks ≡ None →
+    IsExactLookWait table state now most script (state_wait state now most script)
