@@ -15,6 +15,8 @@ use Rattle.station_setup.specs.Opening.Places.{no_place}
 use Rattle.station_setup.specs.declared.opening.places.SocketPlace.{SocketPlace}
 use Rattle.station_setup.specs.declared.opening.profiles.UnusableProfile.{UnusableProfile}
 use Rattle.station_setup.specs.declared.opening.profiles.UnusableProfile.TheVariants as profile
+use Rattle.station_setup.specs.declared.reports.ReportFault.{ReportFault}
+use Rattle.station_setup.specs.declared.reports.ReportFault.TheVariants as report
 use Rattle.trace_commands.specs.declared.fault.TracesFault.TheVariants as traces
 use Rattle.trace_text.specs.declared.trace.TraceFault.{TraceFault}
 use Rattle.trace_text.specs.declared.trace.TraceFault.TheVariants as trace
@@ -61,7 +63,7 @@ status_of failure.Token = 5
 status_of failure.Record = 6
 status_of failure.RecordEnd = 6
 status_of failure.NoState = 6
-status_of failure.Report = 6
+status_of (failure.Report why) = 6
 status_of failure.Unpassed = 8
 status_of failure.Thread = 7
 status_of failure.OutOfMemory = 7
@@ -125,6 +127,11 @@ state_failure (state.Unread why) = failure.UnreadState why
 state_failure state.NoState = failure.State
 state_failure state.Unwritten = failure.NoState
 state_failure state.OutOfMemory = failure.OutOfMemory
+
+-- where a report is not written
+abbrev pub report_failure : ReportFault → Failure
+report_failure report.OutOfMemory = failure.OutOfMemory
+report_failure other = failure.Report other
 
 -- a record cannot be begun
 abbrev pub record_failure : RecordFault → Failure

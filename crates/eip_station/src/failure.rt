@@ -12,7 +12,7 @@ use settle_command::SettleFault;
 use station::EarlyEnd;
 use station_port::{SocketCause, StationFault, StationSocket};
 use station_record::{RecordFault, StateFault};
-use station_setup::SocketPlace;
+use station_setup::{ReportFault, SocketPlace};
 use std::alloc::{AllocError, AllocFailed};
 use thiserror::Error;
 use trace_commands::TracesFault;
@@ -80,9 +80,9 @@ pub enum Failure {
     /// The file of the script is not read, or is none, of which a line has told.
     #[error("is no script")]
     Script,
-    /// The report on the script cannot be written.
-    #[error("the report cannot be written")]
-    Report,
+    /// The report on the script is not written, for this reason.
+    #[error("{0}")]
+    Report(ReportFault),
     /// The script has not passed, of which lines have told.
     #[error("the script has not passed")]
     Unpassed,
@@ -138,7 +138,7 @@ pub fn status_of(failure: Failure) -> u8
         Failure::Record => 6,
         Failure::RecordEnd => 6,
         Failure::NoState => 6,
-        Failure::Report => 6,
+        Failure::Report(_) => 6,
         Failure::Unpassed => 8,
         Failure::Thread => 7,
         Failure::OutOfMemory => 7,
@@ -228,6 +228,19 @@ impl From<RecordFault> for Failure {
             RecordFault::OutOfMemory => Failure::OutOfMemory,
             RecordFault::Refused => Failure::Record,
             RecordFault::Full => Failure::Record,
+        }
+    }
+}
+
+impl From<ReportFault> for Failure {
+    ghost use Rattle.eip_station.specs.Failures.{report_failure};
+
+    ghost from_gives = { λ fault given. given ≡ report_failure fault };
+
+    fn from(fault: ReportFault) -> Failure {
+        match fault {
+            ReportFault::OutOfMemory => Failure::OutOfMemory,
+            other => Failure::Report(other),
         }
     }
 }

@@ -8,7 +8,7 @@ use command_lines::word_from_end;
 use plant_rim::{PlantFault, push_fault, read_script_file};
 use station::{ScriptChecks, ScriptLine, ScriptReport};
 use station_rim::{Rim, report_line};
-use station_setup::{begun_report, ended_report, write_report};
+use station_setup::end_report;
 use std::fs::File;
 use std::rt::Files;
 use std::sync::Wait;
@@ -47,21 +47,6 @@ where
     Err(Failure::Script)
 }
 
-/// Writes that the station has not ended yet, if there is to be a report: so a file that cannot be written is known at once.
-pub fn begin_report<R>(rt: R, path: Option<&str>) -> Result<(), Failure>
-where
-    R: AllocGlobal + Files<File = File> + Copy + Drop,
-{
-    let Some(path) = path else {
-        return Ok(());
-    };
-    let text = begun_report(rt.alloc())?;
-    match write_report(&rt, path, text.as_slice()) {
-        Ok(()) => Ok(()),
-        Err(_) => Err(Failure::Report),
-    }
-}
-
 /// Says what came of the script of a station of this name, and writes the report. The fault is `Unpassed` if it has not passed.
 pub fn judge<R>(
     setting: &Stationed<'_, R>,
@@ -84,13 +69,8 @@ where
     if !text.is_empty() {
         report_line(rt, setting.rim, text.as_slice());
     }
-    if let Some(path) = path {
-        report.push_suite(alloc, &mut suite)?;
-        let text = ended_report(alloc, suite.as_slice())?;
-        if write_report(&rt, path, text.as_slice()).is_err() {
-            return Err(Failure::Report);
-        }
-    }
+    report.push_suite(alloc, &mut suite)?;
+    end_report(&rt, path, suite.as_slice())?;
     if report.counts().failures > 0 {
         return Err(Failure::Unpassed);
     }

@@ -5,7 +5,7 @@ use crate::paging::{HostNet, PageSubject, begin_page, page_host};
 use crate::profiles::profile_of;
 use crate::program::{Surroundings, line_of};
 use crate::rules::{has_next_life, left_ms, life_end, reads_lines, run_end};
-use crate::scripting::{begin_report, judge, script_in};
+use crate::scripting::{judge, script_in};
 use crate::texts::{kind_word, record_name, start_text, state_name};
 use cip_tables::Config;
 use cip_types::OutOfMemory;
@@ -20,9 +20,9 @@ use station_rim::{
     report_line,
 };
 use station_setup::{
-    HostCounters, MOST_LIVES, OpenStation, OpenedPort, StationOutputs, described, host_of,
-    incarnation_of, is_scanner, names_in, open_life_port, passed_ms, recorder_in, rest_before_life,
-    socket_place, start_in, station_of, with_incarnation, with_serials,
+    HostCounters, MOST_LIVES, OpenStation, OpenedPort, StationOutputs, begin_report, described,
+    host_of, incarnation_of, is_scanner, names_in, open_life_port, passed_ms, recorder_in,
+    rest_before_life, socket_place, start_in, station_of, with_incarnation, with_serials,
 };
 use std::fs::File;
 use std::random::RandomSource;
@@ -83,7 +83,7 @@ where
         Some(left) => Some(word_from_end(words, left)),
         None => None,
     };
-    begin_report(rt, report)?;
+    begin_report(&rt, report)?;
     let setting = Stationed {
         rt,
         words,

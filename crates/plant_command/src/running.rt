@@ -4,13 +4,13 @@ use crate::endings::{ends, is_late, is_over, seconds_of};
 use crate::failure::PlantFailure;
 use crate::opening::{NumberedPlant, PlantSetting, plant_of};
 use crate::paths::path_beside;
-use crate::reports::{begin_report, end_report};
+use crate::reports::report_scripts;
 use crate::setups::{Member, MemberSetup, device_names, setups_of};
 use plant_rim::{PlantFile, PlantPhase, PlantView, SharedPlant, TypedLine, next_phase, read_typed};
 use station::StationStep;
 use station_lines::NextLine;
 use station_rim::{Rim, SharedDevices, drain_lines, report_line};
-use station_setup::end_of;
+use station_setup::{begin_report, end_of};
 use std::fs::File;
 use std::rt::{Clock, Files};
 use std::sync::Wait;
@@ -59,7 +59,7 @@ where
     let setups = setups_of(rt, rim, setting, said, lines.as_slice(), folder)?;
     let names = device_names(rt.alloc(), setups.as_slice())?;
     let devices = SharedDevices::new(rt.alloc(), names)?;
-    begin_report(rt, setting.report)?;
+    begin_report(&rt, setting.report)?;
     let members = begin_all(rt, plant, setups, &devices)?;
     let mut console = Console {
         rt,
@@ -74,7 +74,7 @@ where
         has_ended: false,
     };
     console.run()?;
-    let judged = end_report(rt, plant, setting.report, members.len());
+    let judged = report_scripts(rt, plant, setting.report, members.len());
     match plant.state(&rt).failure {
         Some(failure) => Err(PlantFailure::Device(failure)),
         None => judged,

@@ -16,6 +16,6 @@ pub use opening::{
     station_of, unread_profile, with_incarnation, with_serials,
 };
 pub use place::{adapter_place, end_of, rates_of, scanner_place};
-pub use reports::{begun_report, ended_report, write_report};
+pub use reports::{ReportFault, begin_report, end_report};
 pub use targets::targets_of;
 pub use unservable::{StationDefect, station_defect};

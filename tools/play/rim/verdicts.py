@@ -68,6 +68,20 @@ def run_bad_scripts(bench):
         path = bench.write_exactly("bad.script", text)
         done = run(bench.program, "adapter", bench.file("adapter.profile"), "--script", path, stdin=subprocess.DEVNULL, timeout=20)
         sure((done.returncode, last(done)) == (3, f"eip_station: {path}: {wrong}"), f"a bad line of a script is told: {last(done)}")
+    keep_files(bench)
+
+
+def keep_files(bench):
+    """A report takes the place of nothing but a report: of a profile, a plant or a folder it says why not, and they stay."""
+    profile = bench.write_exactly("kept.profile", open(bench.file("adapter.profile")).read())
+    plant = bench.write_exactly("kept.plant", f"device a {bench.file('adapter.profile')}\nseconds 1\n")
+    for kind, path in (("adapter", profile), ("plant", plant)):
+        before = open(path).read()
+        done = run(bench.program, kind, path, "--no-input", "--report", path, stdin=subprocess.DEVNULL, timeout=20)
+        wanted = "eip_station: the report is not written: another file is there"
+        sure((done.returncode, last(done), open(path).read()) == (6, wanted, before), f"a report replaces no {kind}: {last(done)}")
+    done = run(bench.program, "adapter", profile, "--no-input", "--report", bench.folder, stdin=subprocess.DEVNULL, timeout=20)
+    sure((done.returncode, last(done)) == (6, "eip_station: the report cannot be written"), f"nor a folder: {last(done)}")
 
 
 def run_stop(bench):
