@@ -92,19 +92,20 @@ def run_stop(bench):
 
 
 def run_foreign(bench):
-    """Somebody else's adapter, whose output an input shows: it is safe once its owner is lost, and with a bug on purpose it is not."""
+    """Somebody else's adapter, whose output an input shows: it is safe once its owner is lost, and with a bug on purpose it is not. It
+    serves one connection at a time, so the watcher waits for the loss."""
     target, owner, watcher = bench.network.extra[:3]
-    bench.write_exactly("owner.profile", OWNER.format(node=owner, target=target))
-    bench.write_exactly("watcher.profile", WATCHER.format(node=watcher, target=target))
-    text = ("device owner owner.profile\n  at 0 mode run\n  at 0 write 0 11223344\n  at 2000 expect image 0 = 11223344\n  at 3000 pause 9000\n"
-            "device watcher watcher.profile\n  at 7000 expect slot 0 established\n  at 7000 expect image 0 = 00000000\n  at 7500 pass\nseconds 8\n")
+    bench.write_exactly("of_owner.profile", OWNER.format(node=owner, target=target))
+    bench.write_exactly("of_watcher.profile", WATCHER.format(node=watcher, target=target))
+    text = ("device owner of_owner.profile\n  at 0 mode run\n  at 0 write 0 11223344\n  at 0 expect within 4000 image 0 = 11223344\n  at 5000 pause 9000\n"
+            "device watcher of_watcher.profile\n  at 0 stop 0\n  at 6000 start 0\n  at 7000 expect within 1000 slot 0 established\n  at 7000 expect within 1000 image 0 = 00000000\n  at 8500 pass\nseconds 9\n")
     path = bench.write_exactly("foreign.plant", text)
-    for bug, wanted in ((), None), (("--keep-output",), "image 0 = 00000000, but 11223344"):
+    for bug, wanted in ((), None), (("--keep-output",), "image 0 = 00000000 within 1000, but 11223344"):
         words = [sys.executable, f"{TOP}/tools/peers/small_adapter.py", "--own", target, "--echo", "--seconds", "12", *bug]
         peer = subprocess.Popen([*bench.network.at("peer"), *words], stdout=subprocess.PIPE, stderr=subprocess.STDOUT)
         bench.later(contextlib.ExitStack()).callback(peer.kill)
         time.sleep(1)
         status, lines, said = ended(bench, "peer", "plant", path, "--no-input")
         peer.kill()
-        why = cases(bench)["watcher", "2: expect image 0 = 00000000"]
-        sure((status, why) == (8 if bug else 0, wanted), f"an adapter {'that keeps its output' if bug else 'whose output is safe'}: status {status}, {why}")
+        why = cases(bench)["watcher", "4: expect within 1000 image 0 = 00000000"]
+        sure((status, why) == (8 if bug else 0, wanted), f"an adapter {'that keeps its output' if bug else 'whose output is safe'}: status {status}, {why}; {said[-4:]}")
