@@ -400,7 +400,7 @@ class ScriptRun:
     def begin(self, line: Line) -> None:
         """A line is taken: what it does begins. Behind the decision of its script it judges nothing."""
         if line.call is not None:
-            line.call(self.member)
+            self.call(line, line.call)
         elif self.decided:
             return
         elif line.goal == "expect":
@@ -412,6 +412,13 @@ class ScriptRun:
             self.decided = True
             line.met += 1
             self.say(f"passed {line.number}")
+
+    def call(self, line: Line, call: Call) -> None:
+        """A line calls its device. A refusal is said and decides nothing, as at a station."""
+        try:
+            call(self.member)
+        except Refused as refused:
+            self.say(f"refused {line.number} {refused}")
 
     def expect(self, line: Line) -> None:
         """A line begins to expect its condition: it is met at once, or waits."""
@@ -483,7 +490,17 @@ def _attribute(text: str) -> str:
 
 def report_text(runs: Iterable[ScriptRun]) -> str:
     """What came of these scripts, in the form of JUnit."""
-    suites = "".join(run.suite() for run in runs)
+    return _report("".join(run.suite() for run in runs))
+
+
+def begun_report() -> str:
+    """The report of a run that goes on: whoever finds it knows that the run has not ended."""
+    said = '      <failure message="the run has not ended"/>\n'
+    case = f'    <testcase classname="run" name="ends" time="0.000">\n{said}    </testcase>\n'
+    return _report(f'  <testsuite name="run" tests="1" failures="1" skipped="0">\n{case}  </testsuite>\n')
+
+
+def _report(suites: str) -> str:
     return f'<?xml version="1.0" encoding="UTF-8"?>\n<testsuites>\n{suites}</testsuites>\n'
 
 
