@@ -20,7 +20,10 @@ import sys
 import threading
 from typing import NoReturn, Optional, Sequence, cast
 
-from eip import Answer, AnswerKept, BadLine, BadProfile, Device, LibraryMissing, Refused, RefusalNotice, ResetNotice, Status, UnansweredNotice
+from eip import (
+    Answer, AnswerKept, BadLine, BadProfile, Device, LibraryMissing, Refused, RefusalNotice, ResetNotice, Status, UnansweredNotice, node_number,
+    node_text,
+)  # fmt: skip
 from fault_words import refusal_words, unanswered_words
 from plant import Faults, Member, Plant
 from plant_script import BadScript, ScriptRun, begun_report, read_script, write_report
@@ -350,6 +353,15 @@ def number(least: int, most: int) -> type[int]:
     return Number
 
 
+def address(word: str) -> str:
+    """An address as a value of an option."""
+    try:
+        return node_text(node_number(word))
+    except ValueError as bad:
+        sentence = f"{word} is no IPv4 address: that is four numbers below 256 with dots between them"
+        raise argparse.ArgumentTypeError(sentence) from bad
+
+
 def parser() -> argparse.ArgumentParser:
     """The words that the command takes."""
     made = _Parser(prog="python3 -m eip", description=__doc__, formatter_class=argparse.RawDescriptionHelpFormatter)
@@ -365,7 +377,7 @@ def parser() -> argparse.ArgumentParser:
     of_serve = tasks.add_parser("serve", help="plays an adapter at the sockets of this host")
     of_serve.set_defaults(call=serve)
     of_serve.add_argument("profile", metavar="PROFILE")
-    of_serve.add_argument("--address", help="in place of the profile's")
+    of_serve.add_argument("--address", type=address, help="in place of the profile's")
     ports = [("tcp", ENCAPSULATION_PORT, "of streams"), ("udp", IO_PORT, "of datagrams"), ("peer-udp", IO_PORT, "of all peers")]
     for name, port, what in ports:
         of_serve.add_argument(f"--{name}", type=number(1, 65535), default=port, metavar="PORT", help=f"the port {what} ({port})")

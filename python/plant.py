@@ -457,6 +457,8 @@ class Plant:
 
     def add(self, device: Device, name: str = "") -> Member:
         """Puts a device on the network, at the address that its profile has. The plant closes it."""
+        if device.is_closed:
+            raise DeviceClosed
         if device.node in self.members:
             raise ValueError(f"two devices have the address {device.node}")
         member = Member(self, device, name or device.node)

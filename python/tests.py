@@ -8,24 +8,31 @@ import io
 import os
 import pathlib
 import re
+import socket
 import sys
+import tempfile
 import threading
+import time
 import types
 import typing
 import unittest
 
 import eip
+import eip_command
+import fault_words
 import plant
 import plant_script
+import plant_sockets
 import trace_lines
 from eip import (
     Answer, AnswerKept, AskedRequest, BadLine, BadProfile, Connection, ConnectionKind, ConnectionNotice, Datagram, Delivery, Device,
-    DeviceClosed, Frame, Identity, Mode, NoAnswer, NoticeKind, ProfileFault, RefusalNotice, Refused, Reply, ResetNotice, Slot,
+    DeviceClosed, Frame, Identity, Mode, NoAnswer, NoticeKind, OtherLife, ProfileFault, RefusalNotice, Refused, Reply, ResetNotice, Slot,
     SlotNotice, SlotState, Status, ExplicitReply, UnansweredNotice,
     StreamNotice, Verdict, inquiry, node_number, node_text, read_answer,
 )
 from plant import Faults, Plant
 from plant_script import BadScript, Judgement, judged, read_script, report_text
+from plant_sockets import PortRefused, Sockets
 from trace_lines import RecordedDevice, outcome_lines
 
 TOP = pathlib.Path(__file__).resolve().parent.parent
@@ -887,9 +894,447 @@ class Scripts(unittest.TestCase):
                 self.assertEqual([line.failure for line in last.lines], [None, failure])
 
 
+class Members(unittest.TestCase):
+    """A member has the calls of its device. On this network nothing takes time; the scanner sends and receives at 0, 10, 20, .."""
+
+    OWN = ADAPTER.replace("heartbeat", "object 100\nheartbeat")
+    # Get_Attribute_Single of the input 100, and of attribute 1 of instance 1 of the maker's own class 100
+    GET_INPUT, GET_OWN = bytes.fromhex("0e03200424643003"), bytes.fromhex("0e03206424013001")
+
+    def plant(self):
+        plant = Plant()
+        self.addCleanup(plant.close)
+        adapter, scanner = plant.add(Device(self.OWN), "adapter"), plant.add(Device(SCANNER), "scanner")
+        plant.connect(scanner, adapter)
+        scanner.start(0)
+        scanner.mode(True)
+        plant.run_until(95)
+        return plant, adapter, scanner
+
+    def test_each_call_of_a_device_is_one_of_a_member_or_of_its_plant(self):
+        of_the_plant = {
+            "stream": "connect", "tick": "run_until", "run_until": "run_until", "close": "close", "is_closed": "close",
+            "from_file": "add", "incarnation": "add", "node": "add",
+        }  # fmt: skip
+        calls = {name for name in dir(Device) if not name.startswith("_")}
+        self.assertEqual(calls - {name for name in dir(plant.Member) if not name.startswith("_")}, calls & set(of_the_plant))
+        for call in of_the_plant.values():
+            self.assertTrue(hasattr(Plant, call))
+        self.assertEqual(plant.Member.respond.__doc__, Device.respond.__doc__)
+
+    def test_states_are_those_of_the_present_time(self):
+        plant, adapter, scanner = self.plant()
+        ages = []
+        plant.at(98, lambda: ages.extend((adapter.owner(150).age_ms, scanner.slot(0).age_ms, adapter.connection(0).age_ms)))
+        self.assertEqual((adapter.owner(150).age_ms, scanner.slot(0).age_ms, adapter.connection(1)), (5, 5, None))
+        plant.run_until(99)
+        self.assertEqual(ages, [8, 8, 8])
+        self.assertEqual((adapter.next_wake(), adapter.now_ms, adapter.is_scanner, scanner.is_scanner), (1, 99, False, True))
+
+    def test_a_request_comes_back_as_an_answer(self):
+        plant, adapter, scanner = self.plant()
+        adapter.write(100, bytes.fromhex("01020304"))
+        scanner.explicit(adapter.node, 7, self.GET_INPUT)
+        plant.run_until(95)
+        reply = Answer(Verdict.REPLIED, (), ExplicitReply(7, 0, b"", bytes.fromhex("01020304")))
+        self.assertEqual(scanner.answers[-1], eip.TimedAnswer(95, reply))
+        # (without a stream, the reply is in the answer)
+        self.assertEqual(adapter.request(OWNER, self.GET_INPUT).replies[0].data, bytes.fromhex("8e000000" "01020304"))
+        self.assertEqual(adapter.answer(), adapter.device.answer())
+        # (a device without a description counts nothing, and answers no inquiry)
+        for call in lambda: adapter.counters(bytes(92)), lambda: scanner.inquire(OWNER, bytes(24)), lambda: scanner.request(OWNER, b""):
+            self.assertRaises(Refused, call)
+        self.assertEqual(adapter.inquire(OWNER, bytes(24)).verdict, Verdict.BAD_FRAME)
+
+    def test_an_application_answers_at_once(self):
+        plant, adapter, scanner = self.plant()
+        adapter.watch = lambda answer: answer.asked and adapter.respond(answer.asked, 0, b"\x2a")
+        scanner.explicit(adapter.node, 8, self.GET_OWN)
+        plant.run_until(95)
+        self.assertEqual(scanner.answers[-1].answer.reply, ExplicitReply(8, 0, b"", b"\x2a"))
+        self.assertEqual(fault_words.reply_words(scanner.answers[-1].answer.reply),
+                         "explicit request 8 is answered: general status 0x00 (success), additional status -")
+
+    def test_an_answer_knows_its_life(self):
+        """Each life numbers its requests anew, so a number alone is taken for that of the present life."""
+        plant, adapter, scanner = self.plant()
+        sent = []
+        plant.watch = lambda member, datagram: sent.append(datagram.life) if member is adapter else None
+        scanner.explicit(adapter.node, 9, self.GET_OWN)
+        plant.run_until(100)
+        first = adapter.answers[-1].answer.asked
+        self.assertEqual(first, AskedRequest(1, 0x0E, 100, 1, 1, b"", life=1))
+        adapter.restart(Device(self.OWN.replace("adapter 16", "adapter 17")))
+        self.assertEqual((adapter.life, adapter.now_ms, scanner.life), (2, 0, 1))
+        # the stream opens again 1 s after it was cut, and the slot 3 s after its time-out at 260
+        plant.run_until(4_000)
+        scanner.explicit(adapter.node, 10, self.GET_OWN)
+        plant.run_until(4_000)
+        second = adapter.answers[-1].answer.asked
+        self.assertEqual((second.number, second.life), (1, 2))
+        with self.assertRaises(OtherLife) as other:
+            adapter.respond(first, 0, b"\x01")
+        self.assertEqual(str(other.exception), "request 1 is of life 1, and the device is in life 2")
+        adapter.respond(second, 0, b"\x02")
+        plant.run_until(4_000)
+        self.assertEqual(scanner.answers[-1].answer.reply, ExplicitReply(10, 0, b"", b"\x02"))
+        self.assertEqual(sorted(set(sent)), [1, 2])
+        self.assertEqual({it.answer.life for it in adapter.answers}, {1, 2})
+        self.assertEqual(adapter.write(100, bytes(4)), Answer(Verdict.DONE, life=2))
+
+    def test_a_record_answers_a_request_of_its_life(self):
+        with RecordedDevice(self.OWN) as device:
+            asked = device.request(OWNER, self.GET_OWN).asked
+            device.life = 2
+            self.assertRaises(OtherLife, device.respond, asked)
+            device.life = 1
+            device.respond(asked, 0, b"\x07")
+            self.assertEqual(device.trace().split("\n")[8:10], ["answer 1 00 07", "2 done"])
+
+    def test_a_member_that_begins_and_one_that_has_ended(self):
+        plant, adapter, scanner = self.plant()
+        used = Device(ADAPTER.replace("1.10", "1.30"))
+        used.tick(40)
+        late = plant.add(used, "late")
+        plant.run_until(100)
+        self.assertEqual((late.now_ms, late.clock_ms), (45, 100))
+        closed = Device(ADAPTER)
+        closed.close()
+        for device, fault, text in [
+            (adapter.device, ValueError, "<adapter> restarts with another device: this one ends"),
+            (closed, DeviceClosed, "the device is closed"), (Device(SCANNER), ValueError, "192.168.1.20 is not the address of <adapter>"),
+        ]:
+            with self.assertRaises(fault) as caught:
+                adapter.restart(device)
+            self.assertEqual(str(caught.exception), text)
+        self.assertEqual(adapter.life, 1)
+        with self.assertRaises(DeviceClosed):
+            plant.add(closed, "closed")
+        plant.close()
+        for call in lambda: adapter.owner(150), lambda: adapter.write(100, bytes(4)), lambda: scanner.slot(0), lambda: plant.run_until(200):
+            self.assertRaises(DeviceClosed, call)
+
+    def test_a_pause_may_be_longer_than_a_tick(self):
+        plant, adapter, _ = self.plant()
+        adapter.pause(150_000)
+        plant.run_until(200_000)
+        self.assertEqual((adapter.now_ms, adapter.clock_ms), (200_000, 200_000))
+        adapter.pause(70_000)
+        plant.at(260_000, lambda: adapter.write(100, bytes(4)))
+        plant.run_until(260_000)
+        self.assertEqual(adapter.now_ms, 260_000)
+
+
+class Sentences(unittest.TestCase):
+    """The sentences of faults are those of the crates, which a station prints."""
+
+    def source(self, name):
+        return (TOP / "crates" / name).read_text()
+
+    def test_refusals_have_the_sentences_of_the_station(self):
+        for name, head, last, texts in [
+            ("cip_events/src/event.rt", "pub enum StepFault", "NotAllowedNow,", [it.sentence for it in map(Status, range(1, 8))]),
+            ("cip_events/src/profile_fault.rt", "pub enum ProfileFault", "Objects,", [it.sentence for it in ProfileFault]),
+        ]:
+            text = self.source(name)
+            text = text[text.index(head):]
+            self.assertEqual(re.findall(r'#\[error\("(.*)"\)\]', text[: text.index(last)]), texts)
+
+    def test_statuses_have_the_names_of_the_station(self):
+        words = self.source("trace_words/src/status_words/statuses.rt") + self.source("trace_words/src/status_words.rt")
+        rows = [(int(number, 16), name) for number, name in re.findall(r'(0x[0-9A-F]+) => "(.*)",', words)]
+        named = [*fault_words.GENERAL.items(), *fault_words.EXTENDED.items(), *fault_words.ENCAPSULATION.items()]
+        self.assertEqual(rows, named)
+        explained = words + self.source("trace_explain/src/answers.rt")
+        for text in [*fault_words._MISMATCHES.values(), *fault_words._UNANSWERED.values(), fault_words._UNNAMED, "refused by the target: "]:
+            self.assertIn(f'"{text}"', explained)
+
+    def test_a_refusal_is_told_whole(self):
+        for call, text in [
+            (lambda device: device.write(100, b"123"), "not the point's length"), (lambda device: device.write(7, b""), "no such point"),
+            (lambda device: device.tick(60_001), "a tick of more than 60000 ms"), (lambda device: device.start(0), "not allowed now"),
+            (lambda device: device.slot(0), "no such slot"), (lambda device: device.respond(1), "not allowed now"),
+        ]:
+            with Device(ADAPTER) as device, self.assertRaises(Refused) as refused:
+                call(device)
+            self.assertEqual(str(refused.exception), text)
+        with self.assertRaises(BadProfile) as bad:
+            Device(ADAPTER.replace("adapter 16", "adapter 0"))
+        self.assertEqual(str(bad.exception), "bad profile 1: the incarnation is 0")
+        with self.assertRaises(Refused) as refused:
+            inquiry(Identity("1.2.3.4", 1, "a" * 33), bytes(24))
+        self.assertEqual(str(refused.exception), "the name has 33 bytes, and a name has 0 to 32")
+
+    def test_why_a_slot_is_not_opened_and_a_request_not_answered(self):
+        for notice, text in [
+            (RefusalNotice(NoticeKind.REFUSED, 4, 1, 0x0106),
+             "slot 4 is not opened: general status 0x01 (connection failure), extended status 0x0106 (ownership conflict)"),
+            (RefusalNotice(NoticeKind.REFUSED, 0, 8), "slot 0 is not opened: general status 0x08 (service not supported), no extended status"),
+            (RefusalNotice(NoticeKind.REFUSED, 0, 5, 0x0106),
+             "slot 0 is not opened: general status 0x05 (path destination unknown), extended status 0x0106"),
+            (RefusalNotice(NoticeKind.MISMATCH, 1, 1, 0x0999),
+             "slot 1 is not opened: refused by the target: general status 0x01 (connection failure), extended status 0x0999 (another status)"),
+            (RefusalNotice(NoticeKind.REFUSED_ENCAP, 2, 100), "slot 2 is not opened: encapsulation status 0x0064 (invalid session handle)"),
+            (RefusalNotice(NoticeKind.REFUSED_ENCAP, 2, 0x10000), "slot 2 is not opened: encapsulation status 0x00010000 (another status)"),
+            (RefusalNotice(NoticeKind.UNREADABLE, 3), "slot 3 is not opened: no readable reply"),
+            (RefusalNotice(NoticeKind.OTHER_ID, 3), "slot 3 is not opened: another T->O id than the requested one, or one in use"),
+        ]:
+            self.assertEqual(fault_words.refusal_words(notice), text)
+        for notice, text in [
+            (UnansweredNotice(NoticeKind.NO_REPLY_TIMED_OUT, 4), "explicit request 4 is not answered: no reply came within the open time-out"),
+            (UnansweredNotice(NoticeKind.NO_REPLY_LOST, 4), "explicit request 4 is not answered: its stream ended"),
+            (UnansweredNotice(NoticeKind.NO_REPLY_ENCAP, 4, 3), "explicit request 4 is not answered: encapsulation status 0x0003 (incorrect data)"),
+        ]:
+            self.assertEqual(fault_words.unanswered_words(notice), text)
+
+
+class AtSockets(unittest.TestCase):
+    """An adapter at sockets of this host: a peer of the test's own speaks to it, in one thread."""
+
+    NODE = "127.0.77.10"
+    PROFILE = ADAPTER.replace("192.168.1.10 255.255.255.0", f"{NODE} 255.0.0.0")
+
+    def free_ports(self):
+        """A TCP port and a UDP port that are free."""
+        made = [socket.socket(socket.AF_INET, kind) for kind in (socket.SOCK_STREAM, socket.SOCK_DGRAM)]
+        for it in made:
+            it.bind((self.NODE, 0))
+        ports = [it.getsockname()[1] for it in made]
+        for it in made:
+            it.close()
+        return ports
+
+    def setUp(self):
+        self.tcp, self.udp = self.free_ports()
+        self.io = socket.socket(socket.AF_INET, socket.SOCK_DGRAM)
+        self.addCleanup(self.io.close)
+        self.io.bind(("127.0.77.20", 0))
+        self.plant = Plant()
+        self.addCleanup(self.plant.close)
+        self.member = self.plant.add(Device(self.PROFILE), "served")
+        self.sockets = Sockets(self.member, tcp=self.tcp, udp=self.udp, peer_udp=self.io.getsockname()[1])
+        self.addCleanup(self.sockets.close)
+
+    def until(self, holds):
+        """Serves until something holds, at most for half a minute."""
+        end = time.monotonic() + 30
+        while not holds():
+            self.assertLess(time.monotonic(), end)
+            self.sockets.turn(self.plant.now_ms + 20)
+
+    def stream(self):
+        """A stream of the peer."""
+        tcp = socket.create_connection((self.NODE, self.tcp), 30, ("127.0.77.20", 0))
+        self.addCleanup(tcp.close)
+        before = len(self.sockets.peers)
+        self.until(lambda: len(self.sockets.peers) > before)
+        tcp.setblocking(False)
+        return tcp
+
+    def received(self, tcp, size):
+        """The next so many bytes of a stream."""
+        got = bytearray()
+
+        def has_come():
+            try:
+                got.extend(tcp.recv(size - len(got)))
+            except BlockingIOError:
+                pass
+            return len(got) == size
+
+        self.until(has_come)
+        return bytes(got)
+
+    def test_a_peer_opens_drives_and_closes(self):
+        tcp = self.stream()
+        # (a message may come in pieces)
+        tcp.send(REGISTER[:10])
+        self.sockets.turn(self.plant.now_ms + 5)
+        tcp.send(REGISTER[10:])
+        self.assertEqual(self.received(tcp, 28), REGISTERED)
+        head = bytes.fromhex("6f00") + (16 + len(OPEN)).to_bytes(2, "little") + bytes.fromhex("01000000") + bytes(16)
+        items = bytes.fromhex("00000000" "0000" "0200" "00000000" "b200") + len(OPEN).to_bytes(2, "little")
+        tcp.send(head + items + OPEN)
+        self.assertEqual(self.received(tcp, 24 + 16 + len(OPEN_REPLY))[40:], OPEN_REPLY)
+        self.io.sendto(RUN_DATA, (self.NODE, self.udp))
+        self.until(lambda: self.member.deliveries[Delivery.APPLIED] == 1)
+        self.assertEqual(self.member.device.read(150).hex(), "11223344")
+        self.io.setblocking(False)
+        data = []
+
+        def has_come():
+            try:
+                data.append(self.io.recv(2048))
+            except BlockingIOError:
+                pass
+            return bool(data)
+
+        self.until(has_come)
+        # (the first datagram of a connection has number and count 1)
+        self.assertEqual(data[0], INPUT_DATA)
+        tcp.send(UNREGISTER)
+        self.until(lambda: not self.sockets.peers)
+        self.assertEqual(self.member.notices[-1][1], StreamNotice(NoticeKind.STREAM_CLOSED, 0))
+
+    def test_streams_that_end(self):
+        """Its peer closes it; a message states 2,049 bytes; the device is restarted; a seventeenth is closed unread."""
+        first, second = self.stream(), self.stream()
+        first.close()
+        self.until(lambda: len(self.sockets.peers) == 1)
+        second.send(bytes.fromhex("65000108"))
+        self.until(lambda: not self.sockets.peers)
+        self.stream()
+        self.member.restart(Device(self.PROFILE.replace("adapter 16", "adapter 17")))
+        self.assertEqual((self.sockets.peers, self.plant.streams, self.member.life), ([], [], 2))
+        streams = [self.stream() for _ in range(16)]
+        extra = socket.create_connection((self.NODE, self.tcp), 30)
+        self.addCleanup(extra.close)
+        extra.setblocking(False)
+
+        def is_closed():
+            try:
+                return extra.recv(1) == b""
+            except BlockingIOError:
+                return False
+
+        self.until(is_closed)
+        self.assertEqual((len(self.sockets.peers), len(streams)), (16, 16))
+        self.member.cut()
+        self.assertEqual(self.plant.streams, [])
+
+    def test_ports_that_the_host_does_not_give(self):
+        for what, words in [
+            (f"the UDP port {self.udp} is in use", dict(tcp=self.udp, udp=self.udp)),
+            (f"the TCP port {self.tcp} is in use", dict(tcp=self.tcp, udp=self.udp)),
+            (f"the TCP port {self.tcp} has an address that is not of this host", dict(address="192.0.2.1", tcp=self.tcp)),
+        ]:
+            with self.assertRaises(PortRefused) as refused:
+                Sockets(self.member, **words)
+            self.assertEqual(str(refused.exception), what)
+            self.assertEqual(refused.exception.is_other_host, "not of this host" in what)
+        with self.assertRaises(ValueError):
+            Sockets(self.plant.add(Device(SCANNER)))
+
+
+class Commands(unittest.TestCase):
+    """python3 -m eip: its status, and what it prints."""
+
+    ADAPTER_FILE, SCANNER_FILE = "examples/station_adapter.profile", "examples/station_scanner.profile"
+
+    def setUp(self):
+        os.chdir(TOP)
+        self.folder = pathlib.Path(self.enterContext(tempfile.TemporaryDirectory()) if hasattr(self, "enterContext") else tempfile.mkdtemp())
+
+    def file(self, name, text):
+        path = self.folder / name
+        path.write_bytes(text.encode() if isinstance(text, str) else text)
+        return str(path)
+
+    def performed(self, *words):
+        """The status of the command, and the lines of its two outputs."""
+        out, err = io.StringIO(), io.StringIO()
+        with contextlib.redirect_stdout(out), contextlib.redirect_stderr(err):
+            status = eip_command.main(words)
+        return status, out.getvalue().splitlines(), err.getvalue().splitlines()
+
+    def test_a_machine_stop_in_virtual_time(self):
+        """The last datagram in front of the pause at 5005 is that of 5000, and the watchdog is 160 ms."""
+        controller = self.file("controller.script", "at 500 mode run\nat 500 write 0 11223344\nat 5005 pause 1000\nat 5001 write 9 00\n")
+        island = self.file("island.script", "at 5005 expect within 320 owner 150 lost\nwhen owner 150 lost do expect output 150 = 00000000\n")
+        report = str(self.folder / "report.xml")
+        status, out, err = self.performed("test", self.SCANNER_FILE, controller, self.ADAPTER_FILE, island, "--ms", "6000", "--report", report)
+        self.assertEqual((status, out), (0, [
+            "station_scanner at 5001 refused 4 no such slot", "station_adapter at 5160 met 1 owner 150 lost after 155",
+            "station_adapter at 5160 met 2 output 150 = 00000000 after 0",
+        ]))
+        self.assertEqual(err, ["eip: station_adapter: its script has passed: 2 lines judge, 0 failed, 0 skipped"])
+        self.assertEqual(pathlib.Path(report).read_text(), '''<?xml version="1.0" encoding="UTF-8"?>
+<testsuites>
+  <testsuite name="station_scanner" tests="0" failures="0" skipped="0">
+  </testsuite>
+  <testsuite name="station_adapter" tests="2" failures="0" skipped="0">
+    <testcase classname="station_adapter" name="1: expect within 320 owner 150 lost" time="0.155"/>
+    <testcase classname="station_adapter" name="2: expect output 150 = 00000000" time="0.000"/>
+  </testsuite>
+</testsuites>
+''')
+
+    def test_a_script_that_has_not_passed_has_the_status_of_a_station(self):
+        status, out, err = self.performed("test", self.ADAPTER_FILE, "examples/scripts/fails.script")
+        self.assertEqual(status, 8)
+        self.assertEqual(out[-1], "station_adapter at 60000 passed 5")
+        self.assertEqual(err[-1], "eip: station_adapter: its script has not passed: 5 lines judge, 2 failed, 1 skipped")
+        self.assertEqual(self.performed("test", self.ADAPTER_FILE, "examples/scripts/holds.script")[0], 0)
+
+    def test_bad_input_has_a_sentence(self):
+        passes = self.file("passes.script", "at 1 pass\n")
+        bad_script, no_text = self.file("bad.script", "\nat x pass\n"), self.file("none.script", b"\xff\n")
+        bad_line, bad_profile = self.file("line.profile", "adapter\n"), self.file("fault.profile", ADAPTER.replace("adapter 16", "adapter 0"))
+        events, silent = self.file("events.profile", ADAPTER + "tick 1\n"), self.file("silent.script", "at 1 write 100 00000000\n")
+        time = "a time is a number of milliseconds up to 4294967295, and behind every it is not 0"
+        nowhere = str(self.folder / "no" / "report.xml")
+        for status, said, words in [
+            (2, "the following arguments are required: test | serve", []),
+            (2, f"{self.ADAPTER_FILE}: a script is missing behind the profile; - is none", ["test", self.ADAPTER_FILE]),
+            (2, "argument --ms: 0 is not within 1 to 4294967295", ["test", self.ADAPTER_FILE, passes, "--ms", "0"]),
+            (2, "argument --tcp: invalid number value: 'x'", ["serve", self.ADAPTER_FILE, "--tcp", "x"]),
+            (3, "no.profile: cannot be read: No such file or directory", ["test", "no.profile", passes]),
+            (3, "no.script: cannot be read: No such file or directory", ["test", self.ADAPTER_FILE, "no.script"]),
+            (3, f"{bad_script}: line 2: {time}", ["test", self.ADAPTER_FILE, bad_script]),
+            (3, f"{no_text}: it has bytes that are no UTF-8", ["test", self.ADAPTER_FILE, no_text]),
+            (3, f"{bad_line}: bad line 1", ["test", bad_line, passes]),
+            (3, f"{bad_profile}: bad profile 1: the incarnation is 0", ["test", bad_profile, passes]),
+            (3, f"{events}: has events behind the profile", ["test", events, passes]),
+            (3, "no script judges: a test has a line with expect, fail or pass", ["test", self.ADAPTER_FILE, silent]),
+            (3, f"{self.ADAPTER_FILE}: two devices have the address 127.0.0.10", ["test", *[self.ADAPTER_FILE, passes] * 2]),
+            (3, f"{self.SCANNER_FILE}: is the profile of the other kind of device", ["serve", self.SCANNER_FILE]),
+            (4, "the TCP port 44818 has an address that is not of this host", ["serve", self.ADAPTER_FILE, "--address", "192.0.2.1"]),
+            (6, f"{nowhere}: the report cannot be written", ["test", self.ADAPTER_FILE, passes, "--report", nowhere]),
+        ]:
+            self.assertEqual(self.performed(*words), (status, [], [f"eip: {said}"]), words)
+
+    def test_an_address_is_four_numbers(self):
+        status, _, err = self.performed("serve", self.ADAPTER_FILE, "--address", "localhost")
+        self.assertEqual((status, err), (2, ["eip: argument --address: localhost is no IPv4 address: that is four numbers below 256 with dots between them"]))
+
+    def test_another_incarnation_leaves_the_rest(self):
+        self.assertEqual(eip_command.with_incarnation("# a\n" + ADAPTER, 99), "# a\n" + ADAPTER.replace("adapter 16", "adapter 99"))
+
+    def test_what_is_served_is_printed_and_a_reset_begins_the_next_life(self):
+        plant, lines = Plant(), []
+        self.addCleanup(plant.close)
+
+        def served(profile):
+            member = plant.add(Device(profile), "served")
+            return member, eip_command.Served(member, profile, types.SimpleNamespace(put=lines.append))
+
+        member, prints = served(AtSockets.PROFILE)
+        member.request(OWNER, OPEN)
+        member.datagram(OWNER, RUN_DATA)
+        prints.look()
+        prints.call("write 100 01020304")
+        prints.call("read 150")
+        err = io.StringIO()
+        with contextlib.redirect_stderr(err):
+            for line in "tick 5", "write 100", "write x 00", "read", "# no call":
+                prints.call(line)
+        self.assertEqual(err.getvalue().splitlines(), [f"eip: no call: {line}" for line in ("tick 5", "write 100", "write x 00", "read")])
+        self.assertEqual(lines, [
+            "at 0 output 150 00000000", "at 0 note opened 1 4660 305419896 10000001", "at 0 output 150 11223344", "1 done", "2 value 11223344",
+        ])
+        # Reset of the Identity object, of type 0, at a described device without an owner
+        lines.clear()
+        described = ADAPTER.replace("adapter 16", "adapter 255").replace("heartbeat", "describe 7 50756d70 44818 100 15 02a1b2c3d4e5 120\nheartbeat")
+        member, _ = served(described)
+        member.request(OWNER, bytes.fromhex("05022001240100"))
+        plant.run_until(3)
+        self.assertEqual(lines, ["at 0 output 150 00000000", "at 0 note reset 0", "at 0 life 2, incarnation 1"])
+        self.assertEqual((member.life, member.device.incarnation, member.now_ms), (2, 1, 3))
+
+
 class Documents(unittest.TestCase):
     def test_every_public_name_is_typed_and_documented(self):
-        for module in eip, plant, plant_script, trace_lines:
+        for module in eip, eip_command, fault_words, plant, plant_script, plant_sockets, trace_lines:
             for name, it in vars(module).items():
                 if name.startswith("_") or getattr(it, "__module__", None) != module.__name__ or not callable(it):
                     continue
