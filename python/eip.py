@@ -734,9 +734,16 @@ def _library() -> ctypes.CDLL:
 
 def _number(value: int, most: int, what: str) -> int:
     """A number that its C type can hold. ctypes would cut off what is too much."""
+    if not isinstance(value, int):
+        raise TypeError(f"{what} {value!r} is no whole number")
     if not 0 <= value <= most:
         raise ValueError(f"{what} {value} is not within 0 to {most}")
     return value
+
+
+def _no_bytes(data: object) -> TypeError:
+    """The error of a call to which something else than bytes is given."""
+    return TypeError(f"{data!r} has the type {type(data).__name__}, and data are bytes")
 
 
 # DEVICES
@@ -860,7 +867,10 @@ class Device:
         with self._lock:
             if not self._is_open:
                 raise DeviceClosed
-            delivery: int = self._calls.eip_c_datagram(self._at, node, data, len(data))
+            try:
+                delivery: int = self._calls.eip_c_datagram(self._at, node, data, len(data))
+            except ctypes.ArgumentError:
+                raise _no_bytes(data) from None
             return _DELIVERIES[delivery]
 
     def inquire(self, peer: Address, data: bytes) -> Answer:
@@ -1025,7 +1035,10 @@ class Device:
             if not self._is_open:
                 raise DeviceClosed
             room = self._room
-            status = call(self._at, *words, room, self._length, self._count)
+            try:
+                status = call(self._at, *words, room, self._length, self._count)
+            except ctypes.ArgumentError:
+                raise _no_bytes(next((word for word in words if not isinstance(word, (int, bytes))), words)) from None
             if status == _NO_ROOM:
                 status, room = self._requested_again(self._size.value)
             if status == _DONE:

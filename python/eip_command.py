@@ -15,10 +15,11 @@ import os
 import pathlib
 import queue
 import random
+import re
 import signal
 import sys
 import threading
-from typing import NoReturn, Optional, Sequence, cast
+from typing import Callable, NoReturn, Optional, Sequence, cast
 
 from eip import (
     Answer, AnswerKept, BadLine, BadProfile, Device, LibraryMissing, Refused, RefusalNotice, ResetNotice, Status, UnansweredNotice, node_number,
@@ -33,6 +34,7 @@ from trace_lines import events_of, notice_words, outcome_lines, perform
 EARLY, WORDS, UNREAD, OTHER_HOST, PORT, REPORT, NO_MEMORY, UNPASSED = 1, 2, 3, 4, 5, 6, 7, 8
 _CALLS = ("write", "read", "answer", "counters")
 _LONGEST_LINE = 8192
+_LONGEST_FILE = 16_777_216
 
 
 class Failure(Exception):
@@ -45,7 +47,9 @@ class Failure(Exception):
 
 class _Parser(argparse.ArgumentParser):
     def error(self, message: str) -> NoReturn:
-        raise Failure(WORDS, message)
+        """Ends with the sentence of a station for a wrong word, where it has one."""
+        message = re.sub(r"^argument (--[a-z-]+): expected one argument$", r"\1 needs a value", message)
+        raise Failure(WORDS, re.sub(r"^unrecognized arguments: (\S+).*$", r"\1 no such option", message))
 
 
 # FILES
@@ -54,10 +58,15 @@ class _Parser(argparse.ArgumentParser):
 def read_text(path: str) -> str:
     """The text of a file."""
     try:
-        return pathlib.Path(path).read_bytes().decode()
-    except OSError as fault:
-        raise Failure(UNREAD, f"{path}: cannot be read: {fault.strerror}") from fault
-    except UnicodeDecodeError as fault:
+        file = pathlib.Path(path)
+        if file.exists() and not file.is_file():
+            raise Failure(UNREAD, f"{path} is no regular file")
+        if file.stat().st_size > _LONGEST_FILE:
+            raise Failure(UNREAD, f"{path} is longer than {_LONGEST_FILE} bytes")
+        return file.read_bytes().decode()
+    except (OSError, ValueError) as fault:
+        if not isinstance(fault, UnicodeDecodeError):
+            raise Failure(UNREAD, f"{path} cannot be read") from fault
         raise Failure(UNREAD, f"{path}: it has bytes that are no UTF-8") from fault
 
 
@@ -73,7 +82,7 @@ def device_of(path: str, incarnation: Optional[int] = None) -> Device:
         raise Failure(UNREAD, f"{path}: {bad}") from bad
     if events_of(text):
         device.close()
-        raise Failure(UNREAD, f"{path}: has events behind the profile")
+        raise Failure(UNREAD, f"{path} has events behind the profile")
     return device
 
 
@@ -97,7 +106,7 @@ def begin_report(path: Optional[str]) -> None:
         try:
             pathlib.Path(path).write_text(begun_report(), encoding="utf-8", newline="\n")
         except OSError as fault:
-            raise Failure(REPORT, f"{path}: the report cannot be written") from fault
+            raise Failure(REPORT, "the report cannot be written") from fault
 
 
 def script_at(member: Member, path: str) -> ScriptRun:
@@ -117,7 +126,7 @@ def judge(runs: Sequence[ScriptRun], report: Optional[str]) -> int:
         try:
             write_report(report, runs)
         except OSError as fault:
-            raise Failure(REPORT, f"{report}: the report cannot be written") from fault
+            raise Failure(REPORT, "the report cannot be written") from fault
     return 0 if all(run.has_passed for run in runs) else UNPASSED
 
 
@@ -163,9 +172,9 @@ def names_of(paths: Sequence[str]) -> list[str]:
     return stems if len(set(stems)) == len(stems) else list(paths)
 
 
-def plant_at(plant: Plant, path: str, name: str) -> Member:
+def plant_at(plant: Plant, path: str, name: str, incarnation: Optional[int] = None) -> Member:
     """A member of the profile in a file."""
-    device = device_of(path)
+    device = device_of(path, incarnation)
     try:
         return plant.add(device, name)
     except ValueError as bad:
@@ -188,19 +197,19 @@ def connect(plant: Plant, profiles: Sequence[str], members: Sequence[Member]) ->
 
 
 class _Printer:
-    """Lines for the standard output, which a thread of their own writes: a reader that is late loses lines, and holds nothing up."""
+    """Lines for the outputs, which a thread of their own writes: a reader that is late loses lines, and holds nothing up."""
 
     def __init__(self) -> None:
-        self.lines: queue.Queue[Optional[str]] = queue.Queue(1000)
+        self.lines: queue.Queue[Optional[tuple[int, str]]] = queue.Queue(1000)
         self.is_unread = False
         """Whether nobody reads on."""
         self.thread = threading.Thread(target=self._write, daemon=True)
         self.thread.start()
 
-    def put(self, line: str) -> None:
-        """Prints a line, if there is room for it."""
+    def put(self, line: str, output: int = 1) -> None:
+        """Prints a line at the output of this number, if there is room for it."""
         try:
-            self.lines.put_nowait(line)
+            self.lines.put_nowait((output, line))
         except queue.Full:
             pass
 
@@ -213,12 +222,15 @@ class _Printer:
         self.thread.join(1)
 
     def _write(self) -> None:
-        for line in iter(self.lines.get, None):
+        # (not by the files of sys, whose locks would hold the end up)
+        while True:
+            said = self.lines.get()
+            if said is None:
+                return
             try:
-                sys.stdout.write(f"{line}\n")
-                sys.stdout.flush()
-            except (OSError, ValueError):
-                self.is_unread = True
+                os.write(said[0], f"{said[1]}\n".encode())
+            except OSError:
+                self.is_unread = self.is_unread or said[0] == 1
 
 
 class Served:
@@ -244,7 +256,9 @@ class Served:
         self.printer.put(f"at {self.member.plant.now_ms} {text}")
 
     def watch(self, answer: Answer) -> None:
-        """Prints what an answer says, and restarts the device if a peer requests it."""
+        """Prints what an answer says, and restarts the device if a peer requests it. Nothing is kept, however long it serves."""
+        self.member.answers.clear()
+        self.member.notices.clear()
         for notice in answer.notices:
             self.put(f"note {notice_words(notice)}")
             if isinstance(notice, RefusalNotice):
@@ -264,7 +278,10 @@ class Served:
 
     def typed(self, sockets: Sockets) -> None:
         """Lines of the standard input are calls, as at a station."""
-        got = os.read(0, 4096)
+        try:
+            got = os.read(0, 4096)
+        except OSError:
+            got = b""
         if not got:
             del sockets.others[0]
             return
@@ -282,8 +299,8 @@ class Served:
                 raise ValueError
             # (a member has the calls of its device)
             outcome = perform(cast(Device, self.member), line)
-        except (ValueError, IndexError):
-            print(f"eip: no call: {line}", file=sys.stderr)
+        except (ValueError, IndexError, TypeError):
+            self.printer.put(f"eip: no call: {line}", 2)
             return
         self.calls += 1
         for said in outcome_lines(self.calls, outcome):
@@ -297,12 +314,9 @@ def serve(words: argparse.Namespace) -> int:
     incarnation = random.SystemRandom().randint(1, 255) if words.incarnation is None else words.incarnation
     begin_report(words.report)
     with Plant() as plant:
-        member = plant_at(plant, words.profile, words.address or pathlib.Path(words.profile).stem)
+        member = plant_at(plant, words.profile, pathlib.Path(words.profile).stem, incarnation)
         if member.is_scanner:
-            raise Failure(UNREAD, f"{words.profile}: is the profile of the other kind of device")
-        member.device.close()
-        plant.members.clear()
-        member = plant.add(device_of(words.profile, incarnation), pathlib.Path(words.profile).stem)
+            raise Failure(UNREAD, f"{words.profile} is the profile of the other kind of device")
         try:
             sockets = Sockets(member, words.address or "", words.tcp, words.udp, words.peer_udp)
         except PortRefused as refused:
@@ -319,16 +333,17 @@ def run(words: argparse.Namespace, sockets: Sockets) -> int:
     served = Served(member, read_text(words.profile), printer)
     runs = [script_at(member, words.script)] if words.script is not None else []
     end_ms = words.seconds * 1000 if words.seconds else 2**48
-    sockets.others[0] = lambda: served.typed(sockets)
+    if is_open(0):
+        sockets.others[0] = lambda: served.typed(sockets)
     signal.signal(signal.SIGTERM, signal.default_int_handler)
-    said = 0
     try:
         while member.plant.now_ms < end_ms and not printer.is_unread:
             sockets.turn(end_ms)
             served.look()
-            for at_ms, text in runs[0].said[said:] if runs else []:
-                printer.put(f"at {at_ms} {text}")
-                said += 1
+            for script in runs:
+                for at_ms, text in script.said:
+                    printer.put(f"at {at_ms} {text}")
+                script.said.clear()
     except KeyboardInterrupt:
         pass
     printer.end()
@@ -336,54 +351,65 @@ def run(words: argparse.Namespace, sockets: Sockets) -> int:
     return EARLY if printer.is_unread else status
 
 
+def is_open(file: int) -> bool:
+    """Whether there is a file of this descriptor."""
+    try:
+        os.fstat(file)
+    except OSError:
+        return False
+    return True
+
+
 # WORDS
 
 
-def number(least: int, most: int) -> type[int]:
-    """A number of these as a value of an option."""
+def number(option: str, least: int, most: int, what: str) -> Callable[[str], int]:
+    """The value of an option that is one of these numbers."""
 
-    class Number(int):
-        def __new__(cls, word: str) -> Number:
-            value = super().__new__(cls, word)
-            if not least <= value <= most:
-                raise argparse.ArgumentTypeError(f"{word} is not within {least} to {most}")
-            return value
+    def read(word: str) -> int:
+        if re.fullmatch("[0-9]{1,20}", word) and least <= int(word) <= most:
+            return int(word)
+        raise Failure(WORDS, f"{option} {word} is no such value: {what} {least} to {most}")
 
-    Number.__name__ = "number"
-    return Number
+    return read
 
 
 def address(word: str) -> str:
-    """An address as a value of an option."""
+    """The value of an option that is an address."""
     try:
         return node_text(node_number(word))
-    except ValueError as bad:
-        sentence = f"{word} is no IPv4 address: that is four numbers below 256 with dots between them"
-        raise argparse.ArgumentTypeError(sentence) from bad
+    except ValueError:
+        sentence = f"--address {word} is no such value: an IPv4 address is four numbers below 256 with dots between them"
+        raise Failure(OTHER_HOST, sentence) from None
 
 
 def parser() -> argparse.ArgumentParser:
     """The words that the command takes."""
-    made = _Parser(prog="python3 -m eip", description=__doc__, formatter_class=argparse.RawDescriptionHelpFormatter)
+    made = _Parser(prog="python3 -m eip", description=__doc__, formatter_class=argparse.RawDescriptionHelpFormatter, allow_abbrev=False)
     tasks = made.add_subparsers(dest="task", required=True, metavar="test | serve")
-    of_test = tasks.add_parser("test", help="judges scripts in virtual time")
+
+    def option(task: argparse.ArgumentParser, name: str, least: int, most: int, what: str, default: Optional[int], usage: str) -> None:
+        help_text = usage if default is None else f"{usage} ({default})"
+        task.add_argument(name, type=number(name, least, most, what), default=default, metavar="N", help=help_text)
+
+    of_test = tasks.add_parser("test", help="judges scripts in virtual time", allow_abbrev=False)
     of_test.set_defaults(call=test)
     of_test.add_argument("files", nargs="+", metavar="PROFILE SCRIPT", help="a device and its script, or - for none")
-    of_test.add_argument("--ms", type=number(1, 2**32 - 1), default=60_000, help="how long the test lasts (60000)")
-    of_test.add_argument("--seed", type=number(0, 2**64 - 1), default=0)
-    for name in "lose", "repeat":
-        of_test.add_argument(f"--{name}", type=number(0, 100), default=0, metavar="PERCENT", help="of the datagrams")
-    of_test.add_argument("--delay", type=number(0, 60_000), default=0, metavar="MS", help="the greatest delay of a message")
-    of_serve = tasks.add_parser("serve", help="plays an adapter at the sockets of this host")
+    option(of_test, "--ms", 1, 2**32 - 1, "the milliseconds are", 60_000, "how long the test lasts")
+    option(of_test, "--lose", 0, 100, "a percentage is", 0, "how many percent of the datagrams are lost")
+    option(of_test, "--repeat", 0, 100, "a percentage is", 0, "how many percent of the others arrive twice")
+    option(of_test, "--delay", 0, 60_000, "the milliseconds are", 0, "the greatest delay of a message")
+    option(of_test, "--seed", 0, 2**64 - 1, "a seed is", 0, "draws other faults")
+    of_serve = tasks.add_parser("serve", help="plays an adapter at the sockets of this host", allow_abbrev=False)
     of_serve.set_defaults(call=serve)
     of_serve.add_argument("profile", metavar="PROFILE")
     of_serve.add_argument("--address", type=address, help="in place of the profile's")
-    ports = [("tcp", ENCAPSULATION_PORT, "of streams"), ("udp", IO_PORT, "of datagrams"), ("peer-udp", IO_PORT, "of all peers")]
-    for name, port, what in ports:
-        of_serve.add_argument(f"--{name}", type=number(1, 65535), default=port, metavar="PORT", help=f"the port {what} ({port})")
-    of_serve.add_argument("--seconds", type=number(1, 10**9))
-    of_serve.add_argument("--incarnation", type=number(1, 255), help="in place of a drawn one")
-    of_serve.add_argument("--script", metavar="FILE")
+    option(of_serve, "--tcp", 1, 65535, "a port is", ENCAPSULATION_PORT, "the port of streams")
+    option(of_serve, "--udp", 1, 65535, "a port is", IO_PORT, "the port of datagrams")
+    option(of_serve, "--peer-udp", 1, 65535, "a port is", IO_PORT, "the port to which datagrams are sent")
+    option(of_serve, "--seconds", 1, 10**9, "the seconds are", None, "how long it serves")
+    option(of_serve, "--incarnation", 1, 255, "an incarnation is", None, "in place of a drawn one")
+    of_serve.add_argument("--script", metavar="FILE", help="judges the adapter")
     for of_task in of_test, of_serve:
         of_task.add_argument("--report", metavar="FILE", help="writes the verdicts in the form of JUnit")
     return made
@@ -403,6 +429,8 @@ def main(words: Optional[Sequence[str]] = None) -> int:
         text, status = str(refused), NO_MEMORY if refused.status == Status.REFUSED_NO_MEMORY else EARLY
     except LibraryMissing as missing:
         text, status = str(missing), EARLY
+    except KeyboardInterrupt:
+        return EARLY
     except BrokenPipeError:
         # (the interpreter flushes the standard output at its end)
         os.dup2(os.open(os.devnull, os.O_WRONLY), 1)

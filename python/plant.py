@@ -19,7 +19,7 @@ import functools
 import heapq
 import itertools
 import random
-from dataclasses import dataclass, field
+from dataclasses import dataclass, field, replace
 from typing import TYPE_CHECKING, Any, Callable, Optional, Protocol, TypeVar
 
 from eip import Answer, Datagram, Delivery, Device, DeviceClosed, Notice, Refused, StreamNotice, TimedAnswer
@@ -186,6 +186,11 @@ class Member:
         return self.plant.now_ms < self._resume_ms
 
     @property
+    def resume_ms(self) -> int:
+        """When its last pause ends, by the time of the plant."""
+        return self._resume_ms
+
+    @property
     def clock_ms(self) -> int:
         """The time of the plant up to which the device has come: its clock."""
         return self._began_ms + self.device.now_ms
@@ -229,6 +234,8 @@ class Member:
         member = self.plant.members.get(node)
         if member is not None:
             self.plant.at(self.plant.now_ms + self.plant.delay(), self.plant._arrive, member, self.node, data)
+        elif self.plant.outside and self.is_plugged:
+            self.plant.outside(self, Datagram(node, (node,), data, self.life))
 
     def script(self, text: str) -> ScriptRun:
         """Has the device do what the lines of a script say, from now on, and judges what they expect (`plant_script.py`)."""
@@ -451,6 +458,8 @@ class Plant:
         self.streams: list[Stream] = []
         self.watch: Optional[Callable[[Member, Datagram], None]] = None
         """Is called with each datagram that a device sends, and its sender, before the network loses it or not."""
+        self.outside: Optional[Callable[[Member, Datagram], object]] = None
+        """Is called with what a device sends to nodes that no member has: these are the nodes of the datagram."""
         self._random = random.Random(seed).random
         self._planned: list[tuple[int, int, Callable[..., object], tuple[Any, ...]]] = []
         self._order = itertools.count()
@@ -522,6 +531,10 @@ class Plant:
         """The network takes a datagram of a device: each node that consumes it receives a copy, two or none."""
         if self.watch:
             self.watch(sender, datagram)
+        if self.outside and sender.is_plugged:
+            nodes = tuple(node for node in datagram.nodes if node not in self.members)
+            if nodes:
+                self.outside(sender, replace(datagram, nodes=nodes))
         for node in datagram.nodes:
             member = self.members.get(node)
             if member is None or not sender.is_plugged or self._random() < self.faults.lost:

@@ -38,8 +38,8 @@ _CAUSES = {
 class PortRefused(Exception):
     """A port that the host does not give: which one, and why, in the words of a station."""
 
-    def __init__(self, what: str, port: int, fault: OSError) -> None:
-        super().__init__(f"the {what} port {port} {_CAUSES.get(fault.errno or 0, 'cannot be made')}")
+    def __init__(self, what: str, port: int, address: str, fault: OSError) -> None:
+        super().__init__(f"the {what} port {port} of {address} {_CAUSES.get(fault.errno or 0, 'cannot be made')}")
         self.is_other_host = fault.errno == errno.EADDRNOTAVAIL
         """Whether the address is not of this host."""
 
@@ -82,7 +82,7 @@ class _Peer:
             return []
         except OSError:
             got = b""
-        self.is_broken = not got
+        self.is_broken = self.is_broken or not got
         self.received += got
         messages: list[bytes] = []
         while len(self.received) >= 4 and not self.is_broken:
@@ -142,7 +142,7 @@ class Sockets:
         self._io.setsockopt(socket.IPPROTO_IP, socket.IP_MULTICAST_TTL, 1)
         if self.address != "0.0.0.0":
             self._io.setsockopt(socket.IPPROTO_IP, socket.IP_MULTICAST_IF, socket.inet_aton(self.address))
-        member.plant.watch = self._sent
+        member.plant.outside = self._sent
 
     def _bound(self, what: str, port: int, kind: socket.SocketKind) -> socket.socket:
         """A socket at a port."""
@@ -154,7 +154,7 @@ class Sockets:
         try:
             made.bind((self.address, port))
         except OSError as fault:
-            raise PortRefused(what, port, fault) from fault
+            raise PortRefused(what, port, self.address, fault) from fault
         return made
 
     def passed_ms(self) -> int:
@@ -170,11 +170,13 @@ class Sockets:
         """Waits until something arrives or is planned, at the latest until a time, and serves it."""
         plant, now = self.member.plant, time.monotonic() - self._began
         next_ms = end_ms if plant.next_ms is None else min(plant.next_ms, end_ms)
-        waiting = [it for it in self.peers if it.unsent]
-        inquiries = [self._inquiries] if self._inquiries else []
+        awaited = [self._listener, self._io, *([self._inquiries] if self._inquiries else []), *self.peers]
+        if self.member.is_paused:
+            # (the host keeps what arrives)
+            awaited, next_ms = [], min(next_ms, self.member.resume_ms)
         # (at most a second: a stream may have been silent for too long)
         longest = min(max(next_ms / 1000 - now, 0), 1)
-        ready, writable, _ = select.select([self._listener, self._io, *inquiries, *self.peers, *self.others], waiting, [], longest)
+        ready, writable, _ = select.select([*awaited, *self.others], [it for it in self.peers if it.unsent], [], longest)
         passed_ms = min(self.passed_ms(), end_ms)
         # What has arrived is dated before what is due, so a datagram in time is taken before a tick that would time it out.
         due = plant.next_ms
@@ -199,8 +201,7 @@ class Sockets:
                 data, (node, _port) = self._io.recvfrom(65536)
             except OSError:
                 return
-            if self.member.is_plugged:
-                self.member.datagram(node, data)
+            self.member.datagram(node, data)
 
     def _inquire(self) -> None:
         """A tool looks for devices. A device without a description answers nothing."""
@@ -241,8 +242,6 @@ class Sockets:
 
     def _sent(self, _member: Member, datagram: Datagram) -> None:
         """The device sends a datagram: to the group, or a copy to each node where there are no groups."""
-        if not self.member.is_plugged:
-            return
         to_group = ipaddress.IPv4Address(datagram.address).is_multicast
         if to_group and ipaddress.IPv4Address(self.member.node) in _LOOPBACK:
             to = [(node, self.peer_udp) for node in datagram.nodes]
@@ -255,7 +254,8 @@ class Sockets:
                 pass  # it is lost
 
     def close(self) -> None:
-        """Closes the sockets."""
+        """Closes the sockets. What the device sends then is lost."""
+        self.member.plant.outside = None
         for made in [*self._made, *(peer.tcp for peer in self.peers)]:
             made.close()
 

@@ -322,6 +322,14 @@ class Devices(unittest.TestCase):
                 lambda: device.read(1 << 32),
             ):
                 self.assertRaises(ValueError, call)
+            for call, text in [
+                (lambda: device.write(100, "abcd"), "'abcd' has the type str, and data are bytes"),
+                (lambda: device.datagram(OWNER, bytearray(1)), "bytearray(b'\\x00') has the type bytearray, and data are bytes"),
+                (lambda: device.tick(1.5), "milliseconds 1.5 is no whole number"),
+            ]:
+                with self.assertRaises(TypeError) as caught:
+                    call()
+                self.assertEqual(str(caught.exception), text)
         self.assertEqual((node_number("192.168.1.10"), node_text(0xC0A8010A)), (0xC0A8010A, "192.168.1.10"))
 
     def test_threads_share_a_device(self):
@@ -1014,6 +1022,21 @@ class Members(unittest.TestCase):
         for call in lambda: adapter.owner(150), lambda: adapter.write(100, bytes(4)), lambda: scanner.slot(0), lambda: plant.run_until(200):
             self.assertRaises(DeviceClosed, call)
 
+    def test_what_goes_outside_is_handed_over(self):
+        """The owner of the output is in no plant: its datagrams and those of `send` leave the plant."""
+        plant, out = Plant(), []
+        self.addCleanup(plant.close)
+        adapter = plant.add(Device(ADAPTER))
+        plant.outside = lambda member, datagram: out.append((plant.now_ms, datagram))
+        adapter.request(OWNER, OPEN)
+        adapter.send("192.168.1.99", b"abc")
+        plant.run_until(9)
+        data = Datagram(OWNER, (OWNER,), INPUT_DATA)
+        self.assertEqual(out, [(0, Datagram("192.168.1.99", ("192.168.1.99",), b"abc")), (0, data)])
+        adapter.unplug()
+        plant.run_until(15)
+        self.assertEqual(len(out), 2)
+
     def test_a_pause_may_be_longer_than_a_tick(self):
         plant, adapter, _ = self.plant()
         adapter.pause(150_000)
@@ -1204,9 +1227,9 @@ class AtSockets(unittest.TestCase):
 
     def test_ports_that_the_host_does_not_give(self):
         for what, words in [
-            (f"the UDP port {self.udp} is in use", dict(tcp=self.udp, udp=self.udp)),
-            (f"the TCP port {self.tcp} is in use", dict(tcp=self.tcp, udp=self.udp)),
-            (f"the TCP port {self.tcp} has an address that is not of this host", dict(address="192.0.2.1", tcp=self.tcp)),
+            (f"the UDP port {self.udp} of {self.NODE} is in use", dict(tcp=self.udp, udp=self.udp)),
+            (f"the TCP port {self.tcp} of {self.NODE} is in use", dict(tcp=self.tcp, udp=self.udp)),
+            (f"the TCP port {self.tcp} of 192.0.2.1 has an address that is not of this host", dict(address="192.0.2.1", tcp=self.tcp)),
         ]:
             with self.assertRaises(PortRefused) as refused:
                 Sockets(self.member, **words)
@@ -1276,26 +1299,28 @@ class Commands(unittest.TestCase):
         for status, said, words in [
             (2, "the following arguments are required: test | serve", []),
             (2, f"{self.ADAPTER_FILE}: a script is missing behind the profile; - is none", ["test", self.ADAPTER_FILE]),
-            (2, "argument --ms: 0 is not within 1 to 4294967295", ["test", self.ADAPTER_FILE, passes, "--ms", "0"]),
-            (2, "argument --tcp: invalid number value: 'x'", ["serve", self.ADAPTER_FILE, "--tcp", "x"]),
-            (3, "no.profile: cannot be read: No such file or directory", ["test", "no.profile", passes]),
-            (3, "no.script: cannot be read: No such file or directory", ["test", self.ADAPTER_FILE, "no.script"]),
+            (2, "--ms 0 is no such value: the milliseconds are 1 to 4294967295", ["test", self.ADAPTER_FILE, passes, "--ms", "0"]),
+            (2, "--tcp x is no such value: a port is 1 to 65535", ["serve", self.ADAPTER_FILE, "--tcp", "x"]),
+            (2, "--tcp needs a value", ["serve", self.ADAPTER_FILE, "--tcp"]),
+            (2, "--fast no such option", ["serve", self.ADAPTER_FILE, "--fast"]),
+            (3, "no.profile cannot be read", ["test", "no.profile", passes]),
+            (3, "no\0script cannot be read", ["test", self.ADAPTER_FILE, "no\0script"]),
+            (3, "/dev/zero is no regular file", ["serve", "/dev/zero"]),
+            (3, "examples is no regular file", ["test", self.ADAPTER_FILE, "examples"]),
             (3, f"{bad_script}: line 2: {time}", ["test", self.ADAPTER_FILE, bad_script]),
             (3, f"{no_text}: it has bytes that are no UTF-8", ["test", self.ADAPTER_FILE, no_text]),
             (3, f"{bad_line}: bad line 1", ["test", bad_line, passes]),
             (3, f"{bad_profile}: bad profile 1: the incarnation is 0", ["test", bad_profile, passes]),
-            (3, f"{events}: has events behind the profile", ["test", events, passes]),
+            (3, f"{events} has events behind the profile", ["test", events, passes]),
             (3, "no script judges: a test has a line with expect, fail or pass", ["test", self.ADAPTER_FILE, silent]),
             (3, f"{self.ADAPTER_FILE}: two devices have the address 127.0.0.10", ["test", *[self.ADAPTER_FILE, passes] * 2]),
-            (3, f"{self.SCANNER_FILE}: is the profile of the other kind of device", ["serve", self.SCANNER_FILE]),
-            (4, "the TCP port 44818 has an address that is not of this host", ["serve", self.ADAPTER_FILE, "--address", "192.0.2.1"]),
-            (6, f"{nowhere}: the report cannot be written", ["test", self.ADAPTER_FILE, passes, "--report", nowhere]),
+            (3, f"{self.SCANNER_FILE} is the profile of the other kind of device", ["serve", self.SCANNER_FILE]),
+            (4, "the TCP port 44818 of 192.0.2.1 has an address that is not of this host", ["serve", self.ADAPTER_FILE, "--address", "192.0.2.1"]),
+            (4, "--address localhost is no such value: an IPv4 address is four numbers below 256 with dots between them",
+             ["serve", self.ADAPTER_FILE, "--address", "localhost"]),
+            (6, "the report cannot be written", ["test", self.ADAPTER_FILE, passes, "--report", nowhere]),
         ]:
             self.assertEqual(self.performed(*words), (status, [], [f"eip: {said}"]), words)
-
-    def test_an_address_is_four_numbers(self):
-        status, _, err = self.performed("serve", self.ADAPTER_FILE, "--address", "localhost")
-        self.assertEqual((status, err), (2, ["eip: argument --address: localhost is no IPv4 address: that is four numbers below 256 with dots between them"]))
 
     def test_another_incarnation_leaves_the_rest(self):
         self.assertEqual(eip_command.with_incarnation("# a\n" + ADAPTER, 99), "# a\n" + ADAPTER.replace("adapter 16", "adapter 99"))
@@ -1306,7 +1331,7 @@ class Commands(unittest.TestCase):
 
         def served(profile):
             member = plant.add(Device(profile), "served")
-            return member, eip_command.Served(member, profile, types.SimpleNamespace(put=lines.append))
+            return member, eip_command.Served(member, profile, types.SimpleNamespace(put=lambda line, output=1: lines.append(line)))
 
         member, prints = served(AtSockets.PROFILE)
         member.request(OWNER, OPEN)
@@ -1314,14 +1339,13 @@ class Commands(unittest.TestCase):
         prints.look()
         prints.call("write 100 01020304")
         prints.call("read 150")
-        err = io.StringIO()
-        with contextlib.redirect_stderr(err):
-            for line in "tick 5", "write 100", "write x 00", "read", "# no call":
-                prints.call(line)
-        self.assertEqual(err.getvalue().splitlines(), [f"eip: no call: {line}" for line in ("tick 5", "write 100", "write x 00", "read")])
+        for line in "tick 5", "write 100", "write x 00", "read", "# no call", "":
+            prints.call(line)
         self.assertEqual(lines, [
             "at 0 output 150 00000000", "at 0 note opened 1 4660 305419896 10000001", "at 0 output 150 11223344", "1 done", "2 value 11223344",
+            *(f"eip: no call: {line}" for line in ("tick 5", "write 100", "write x 00", "read")),
         ])
+        self.assertEqual((member.answers, member.notices), ([], []))
         # Reset of the Identity object, of type 0, at a described device without an owner
         lines.clear()
         described = ADAPTER.replace("adapter 16", "adapter 255").replace("heartbeat", "describe 7 50756d70 44818 100 15 02a1b2c3d4e5 120\nheartbeat")
