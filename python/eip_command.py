@@ -29,7 +29,7 @@ from fault_words import refusal_words, unanswered_words
 from plant import Faults, Member, Plant
 from plant_script import BadScript, ScriptRun, begun_report, read_script, write_report
 from plant_sockets import ENCAPSULATION_PORT, IO_PORT, PortRefused, Sockets
-from trace_lines import events_of, notice_words, outcome_lines, perform
+from trace_lines import RecordedDevice, events_of, notice_words, outcome_lines, perform
 
 EARLY, WORDS, UNREAD, OTHER_HOST, PORT, REPORT, NO_MEMORY, UNPASSED = 1, 2, 3, 4, 5, 6, 7, 8
 _CALLS = ("write", "read", "answer", "counters")
@@ -70,14 +70,14 @@ def read_text(path: str) -> str:
         raise Failure(UNREAD, f"{path}: it has bytes that are no UTF-8") from fault
 
 
-def device_of(path: str, incarnation: Optional[int] = None) -> Device:
+def device_of(path: str, incarnation: Optional[int] = None, kind: type[Device] = Device) -> Device:
     """A device of the profile in a file, whose incarnation may be another one."""
     text = read_text(path)
     try:
-        device = Device(text)
+        device = kind(text)
         if incarnation is not None:
             device.close()
-            device = Device(with_incarnation(text, incarnation))
+            device = kind(with_incarnation(text, incarnation))
     except (BadLine, BadProfile) as bad:
         raise Failure(UNREAD, f"{path}: {bad}") from bad
     if events_of(text):
@@ -143,9 +143,11 @@ def test(words: argparse.Namespace) -> int:
         if path != "-":
             check_script(path)
     begin_report(words.report)
+    begin_records(words.records)
+    kind = RecordedDevice if words.records else Device
     faults = Faults(words.lose / 100, words.repeat / 100, (0, words.delay))
     with Plant(words.seed, faults) as plant:
-        members = [plant_at(plant, path, name) for path, name in zip(profiles, names_of(profiles))]
+        members = [plant_at(plant, path, name, None, kind) for path, name in zip(profiles, names_of(profiles))]
         connect(plant, [read_text(path) for path in profiles], members)
         runs = [script_at(member, path) for member, path in zip(members, scripts) if path != "-"]
         if not any(run.verdicts() for run in runs):
@@ -155,6 +157,7 @@ def test(words: argparse.Namespace) -> int:
         for ms, name, text in sorted(said, key=lambda it: it[0]):
             print(f"{name} at {ms} {text}")
         sys.stdout.flush()
+        write_records(words.records, members)
         return judge(runs, words.report)
 
 
@@ -166,15 +169,36 @@ def check_script(path: str) -> None:
         raise Failure(UNREAD, f"{path}: {bad}") from bad
 
 
+def begin_records(folder: Optional[str]) -> None:
+    """Makes the folder of the records."""
+    if folder is not None:
+        try:
+            pathlib.Path(folder).mkdir(exist_ok=True)
+        except OSError as fault:
+            raise Failure(REPORT, "the record cannot be written") from fault
+
+
+def write_records(folder: Optional[str], members: Sequence[Member]) -> None:
+    """Writes the record of each device, which `eip_line step` replays."""
+    for member in members if folder is not None else []:
+        assert folder is not None and isinstance(member.device, RecordedDevice)
+        file = pathlib.Path(folder) / f"{member.name}.{member.life}.trace"
+        try:
+            file.write_text(member.device.trace(), encoding="utf-8", newline="\n")
+        except OSError as fault:
+            raise Failure(REPORT, "the record cannot be written") from fault
+
+
 def names_of(paths: Sequence[str]) -> list[str]:
-    """The names of devices: those of their files without folder and ending, or the paths if two have one name."""
+    """The names of devices: those of their files without folder and ending, the second one of a name with a 2 behind it."""
     stems = [pathlib.Path(path).stem for path in paths]
-    return stems if len(set(stems)) == len(stems) else list(paths)
+    before = [stems[:place].count(stem) for place, stem in enumerate(stems)]
+    return [f"{stem}-{earlier + 1}" if earlier else stem for stem, earlier in zip(stems, before)]
 
 
-def plant_at(plant: Plant, path: str, name: str, incarnation: Optional[int] = None) -> Member:
+def plant_at(plant: Plant, path: str, name: str, incarnation: Optional[int] = None, kind: type[Device] = Device) -> Member:
     """A member of the profile in a file."""
-    device = device_of(path, incarnation)
+    device = device_of(path, incarnation, kind)
     try:
         return plant.add(device, name)
     except ValueError as bad:
@@ -400,6 +424,7 @@ def parser() -> argparse.ArgumentParser:
     option(of_test, "--repeat", 0, 100, "a percentage is", 0, "how many percent of the others arrive twice")
     option(of_test, "--delay", 0, 60_000, "the milliseconds are", 0, "the greatest delay of a message")
     option(of_test, "--seed", 0, 2**64 - 1, "a seed is", 0, "draws other faults")
+    of_test.add_argument("--records", metavar="FOLDER", help="writes the record of each device, a trace")
     of_serve = tasks.add_parser("serve", help="plays an adapter at the sockets of this host", allow_abbrev=False)
     of_serve.set_defaults(call=serve)
     of_serve.add_argument("profile", metavar="PROFILE")

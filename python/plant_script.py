@@ -26,6 +26,7 @@ from eip import Connection, ConnectionKind, Device, Mode, Refused, SlotState
 _MOST_CONNECTIONS = 64
 _MOST_LINES = 256
 _LAST_MS = 4_294_967_295
+_LAST_REQUEST = 18_446_744_073_709_551_615
 _NO_POINT, _NO_SLOT = "no such point", "no such slot"
 _NO_TIME = "a time is a number of milliseconds up to 4294967295, and behind every it is not 0"
 _NO_CALL = "a call is write, read, mode, start, stop, cut, pause or send, and the words behind it; else it is expect, fail or pass"
@@ -275,6 +276,13 @@ def _call_of(text: str) -> Call:
     if word in ("start", "stop", "pause") and len(given) == 1:
         number = _number(given[0], _LAST_MS, _NO_CALL)
         return lambda member: getattr(member, word)(number)
+    if word == "explicit" and len(given) == 3:
+        target, request = _node(given[0], _NO_CALL), _bytes(given[2], _NO_CALL)
+        own = _number(given[1], _LAST_MS, _NO_CALL)
+        return lambda member: member.explicit(target, own, request)
+    if word == "answer" and len(given) == 3 and re.fullmatch("[0-9a-fA-F]{2}", given[1]):
+        asked, reply = _number(given[0], _LAST_REQUEST, _NO_CALL), _bytes(given[2], _NO_CALL)
+        return lambda member: member.respond(asked, int(given[1], 16), reply)
     if text == "cut":
         return lambda member: member.cut()
     if word == "send" and len(given) == 2:

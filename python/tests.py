@@ -847,6 +847,20 @@ class Scripts(unittest.TestCase):
         run()
         self.assertEqual((lines.lines[0].met, lines.has_passed), (4, True))
 
+    def test_a_script_requests_and_answers(self):
+        """The controller asks class 100, and the island answers request 1; one that does not wait is refused, and decides nothing."""
+        plant = Plant()
+        self.addCleanup(plant.close)
+        island, scanner = plant.add(Device(Members.OWN), "island"), plant.add(Device(SCANNER), "controller")
+        plant.connect(scanner, island)
+        scanner.start(0)
+        scanner.script(f"at 100 explicit 192.168.1.10 7 {Members.GET_OWN.hex()}\nat 100 explicit 192.168.1.10 7 0e03\nat 200 explicit 192.168.1.11 8 0e03")
+        answers = island.script("at 150 answer 1 00 2a\nat 160 answer 1 00 -\nat 200 pass")
+        plant.run_until(300)
+        self.assertEqual(scanner.answers[-1], eip.TimedAnswer(150, Answer(Verdict.REPLIED, (), ExplicitReply(7, 0, b"", b"\x2a"))))
+        self.assertEqual((answers.said, answers.has_passed), ([(160, "refused 2 not allowed now"), (200, "passed 3")], True))
+        self.assertEqual(scanner.script_run.said, [(100, "refused 2 not allowed now"), (200, "refused 3 no such slot")])
+
     def test_bad_lines_have_their_sentences(self):
         for text, line, wrong in [
             ("at soon pass", 1, "a time is a number of milliseconds up to 4294967295, and behind every it is not 0"),
@@ -857,6 +871,8 @@ class Scripts(unittest.TestCase):
             ("at 1 pass\nat 1 expect slot 0 open", 2, plant_script._NO_CONDITION),
             ("at 1 expect within x slot 0 idle", 1, plant_script._NO_TIME),
             ("at 1 restart", 1, plant_script._NO_CALL),
+            ("at 1 answer 1 0 -", 1, plant_script._NO_CALL),
+            ("at 1 explicit 1.2.3 4 0e03", 1, plant_script._NO_CALL),
         ]:
             with self.assertRaises(BadScript) as bad:
                 read_script(text)
@@ -1321,6 +1337,18 @@ class Commands(unittest.TestCase):
             (6, "the report cannot be written", ["test", self.ADAPTER_FILE, passes, "--report", nowhere]),
         ]:
             self.assertEqual(self.performed(*words), (status, [], [f"eip: {said}"]), words)
+
+    def test_records_are_traces_and_names_differ(self):
+        self.assertEqual(eip_command.names_of(["a/x.profile", "y", "b/x.profile", "x"]), ["x", "y", "x-2", "x-3"])
+        folder = self.folder / "records"
+        words = ["test", self.SCANNER_FILE, "-", self.ADAPTER_FILE, self.file("own.script", "at 50 expect owner 150 idle\n"), "--ms", "60"]
+        self.assertEqual(self.performed(*words, "--records", str(folder))[0], 0)
+        self.assertEqual(sorted(it.name for it in folder.iterdir()), ["station_adapter.1.trace", "station_scanner.1.trace"])
+        trace = (folder / "station_adapter.1.trace").read_text()
+        self.assertTrue(trace.startswith(pathlib.Path(self.ADAPTER_FILE).read_text()))
+        # (the scanner is idle, and sends at 0, 10, .. 60, new data at first and then the same)
+        self.assertEqual([len(re.findall(rf"^[0-9]+ {word}$", trace, re.M)) for word in ("idle", "duplicate")], [1, 6])
+        self.assertEqual(self.performed(*words, "--records", "/dev/null")[::2], (6, ["eip: the record cannot be written"]))
 
     def test_another_incarnation_leaves_the_rest(self):
         self.assertEqual(eip_command.with_incarnation("# a\n" + ADAPTER, 99), "# a\n" + ADAPTER.replace("adapter 16", "adapter 99"))
