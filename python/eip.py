@@ -814,6 +814,8 @@ class Device:
 
     @life.setter
     def life(self, life: int) -> None:
+        if life < 1:
+            raise ValueError(f"life {life} is none: the first one is 1")
         self._life = _number(life, 0xFFFFFFFF, "life")
         self._plain = Answer(Verdict.DONE, life=life)
 

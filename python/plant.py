@@ -293,13 +293,14 @@ class Member:
                 stream.send(self, frame.data)
         for datagram in answer.datagrams:
             self.plant.send(self, datagram)
-        for notice in answer.notices:
+        notices = answer.notices
+        for notice in notices:
             self.notices.append((self.plant.now_ms, notice))
             if isinstance(notice, StreamNotice):
                 stream = self._streams.pop(notice.stream, None)
                 if stream:
                     stream.closed_by(self)
-        if answer.notices or answer.reply or answer.asked or answer.delivery is not None:
+        if notices or answer.reply or answer.asked or answer.delivery is not None:
             self.answers.append(TimedAnswer(self.plant.now_ms, answer))
             if self.watch:
                 self.watch(answer)
