@@ -104,7 +104,7 @@ def begin_report(path: Optional[str]) -> None:
     """Writes that the run has not ended: so a file that cannot be written ends it before it begins."""
     if path is not None:
         try:
-            pathlib.Path(path).write_text(begun_report(), encoding="utf-8", newline="\n")
+            pathlib.Path(path).write_bytes(begun_report().encode())
         except OSError as fault:
             raise Failure(REPORT, "the report cannot be written") from fault
 
@@ -184,14 +184,14 @@ def write_records(folder: Optional[str], members: Sequence[Member]) -> None:
         assert folder is not None and isinstance(member.device, RecordedDevice)
         file = pathlib.Path(folder) / f"{member.name}.{member.life}.trace"
         try:
-            file.write_text(member.device.trace(), encoding="utf-8", newline="\n")
+            file.write_bytes(member.device.trace().encode())
         except OSError as fault:
             raise Failure(REPORT, "the record cannot be written") from fault
 
 
 def names_of(paths: Sequence[str]) -> list[str]:
     """The names of devices: those of their files without folder and ending, the second one of a name with a 2 behind it."""
-    stems = [pathlib.Path(path).stem for path in paths]
+    stems = ["".join(it if it.isprintable() else "_" for it in pathlib.Path(path).stem) for path in paths]
     before = [stems[:place].count(stem) for place, stem in enumerate(stems)]
     return [f"{stem}-{earlier + 1}" if earlier else stem for stem, earlier in zip(stems, before)]
 
@@ -338,7 +338,7 @@ def serve(words: argparse.Namespace) -> int:
     incarnation = random.SystemRandom().randint(1, 255) if words.incarnation is None else words.incarnation
     begin_report(words.report)
     with Plant() as plant:
-        member = plant_at(plant, words.profile, pathlib.Path(words.profile).stem, incarnation)
+        member = plant_at(plant, words.profile, names_of([words.profile])[0], incarnation)
         if member.is_scanner:
             raise Failure(UNREAD, f"{words.profile} is the profile of the other kind of device")
         try:

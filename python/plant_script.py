@@ -514,4 +514,4 @@ def _report(suites: str) -> str:
 
 def write_report(path: Union[str, pathlib.Path], runs: Iterable[ScriptRun]) -> None:
     """Writes the report of these scripts."""
-    pathlib.Path(path).write_text(report_text(runs), encoding="utf-8", newline="\n")
+    pathlib.Path(path).write_bytes(report_text(runs).encode())

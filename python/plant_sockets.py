@@ -124,6 +124,8 @@ class Sockets:
         """Makes the sockets, at the member's own address if no other one is named. Raises PortRefused."""
         if member.is_scanner:
             raise ValueError(f"{member} is a scanner, and only an adapter is served")
+        if member.plant.outside is not None:
+            raise ValueError(f"the plant of {member} has sockets already")
         self.member, self.address, self.peer_udp = member, address or member.node, peer_udp
         self.peers: list[_Peer] = []
         """The streams that are open."""
@@ -255,7 +257,8 @@ class Sockets:
 
     def close(self) -> None:
         """Closes the sockets. What the device sends then is lost."""
-        self.member.plant.outside = None
+        if self.member.plant.outside == self._sent:
+            self.member.plant.outside = None
         for made in [*self._made, *(peer.tcp for peer in self.peers)]:
             made.close()
 

@@ -1242,17 +1242,27 @@ class AtSockets(unittest.TestCase):
         self.assertEqual(self.plant.streams, [])
 
     def test_ports_that_the_host_does_not_give(self):
+        with self.assertRaises(ValueError):
+            Sockets(self.member)
+        with Plant() as plant:
+            self.refuses(plant.add(Device(self.PROFILE)))
+            with self.assertRaises(ValueError):
+                Sockets(plant.add(Device(SCANNER)))
+        # (those of a plant that has none take nothing from another one)
+        self.assertEqual(self.plant.outside, self.sockets._sent)
+
+    def refuses(self, member):
+        """Sockets whose ports the host does not give."""
         for what, words in [
             (f"the UDP port {self.udp} of {self.NODE} is in use", dict(tcp=self.udp, udp=self.udp)),
             (f"the TCP port {self.tcp} of {self.NODE} is in use", dict(tcp=self.tcp, udp=self.udp)),
             (f"the TCP port {self.tcp} of 192.0.2.1 has an address that is not of this host", dict(address="192.0.2.1", tcp=self.tcp)),
         ]:
             with self.assertRaises(PortRefused) as refused:
-                Sockets(self.member, **words)
+                Sockets(member, **words)
             self.assertEqual(str(refused.exception), what)
             self.assertEqual(refused.exception.is_other_host, "not of this host" in what)
-        with self.assertRaises(ValueError):
-            Sockets(self.plant.add(Device(SCANNER)))
+            self.assertIsNone(member.plant.outside)
 
 
 class Commands(unittest.TestCase):
@@ -1339,7 +1349,7 @@ class Commands(unittest.TestCase):
             self.assertEqual(self.performed(*words), (status, [], [f"eip: {said}"]), words)
 
     def test_records_are_traces_and_names_differ(self):
-        self.assertEqual(eip_command.names_of(["a/x.profile", "y", "b/x.profile", "x"]), ["x", "y", "x-2", "x-3"])
+        self.assertEqual(eip_command.names_of(["a/x.profile", "y", "b/x.profile", "x", "\udcff\n.b"]), ["x", "y", "x-2", "x-3", "__"])
         folder = self.folder / "records"
         words = ["test", self.SCANNER_FILE, "-", self.ADAPTER_FILE, self.file("own.script", "at 50 expect owner 150 idle\n"), "--ms", "60"]
         self.assertEqual(self.performed(*words, "--records", str(folder))[0], 0)
