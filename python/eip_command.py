@@ -27,7 +27,7 @@ from eip import (
 )  # fmt: skip
 from fault_words import refusal_words, unanswered_words
 from plant import Faults, Member, Plant
-from plant_script import BadScript, ScriptRun, begun_report, read_script, write_report
+from plant_script import BadScript, ScriptRun, begun_report, is_report, read_script, write_report
 from plant_sockets import ENCAPSULATION_PORT, IO_PORT, PortRefused, Sockets
 from trace_lines import RecordedDevice, events_of, notice_words, outcome_lines, perform
 
@@ -101,12 +101,16 @@ def words_of(profile: str, kind: str) -> list[list[str]]:
 
 
 def begin_report(path: Optional[str]) -> None:
-    """Writes that the run has not ended: so a file that cannot be written ends it before it begins."""
-    if path is not None:
-        try:
-            pathlib.Path(path).write_bytes(begun_report().encode())
-        except OSError as fault:
-            raise Failure(REPORT, "the report cannot be written") from fault
+    """Writes that the run has not ended: so a file that cannot be written ends it before it begins. Another file stays as it is."""
+    if path is None:
+        return
+    place = pathlib.Path(path)
+    try:
+        if place.is_file() and not is_report(place.read_bytes()):
+            raise Failure(REPORT, "the report is not written: another file is there")
+        place.write_bytes(begun_report().encode())
+    except OSError as fault:
+        raise Failure(REPORT, "the report cannot be written") from fault
 
 
 def script_at(member: Member, path: str) -> ScriptRun:

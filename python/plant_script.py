@@ -508,8 +508,16 @@ def begun_report() -> str:
     return _report(f'  <testsuite name="run" tests="1" failures="1" skipped="0">\n{case}  </testsuite>\n')
 
 
+_HEAD = '<?xml version="1.0" encoding="UTF-8"?>\n<testsuites>\n'
+
+
 def _report(suites: str) -> str:
-    return f'<?xml version="1.0" encoding="UTF-8"?>\n<testsuites>\n{suites}</testsuites>\n'
+    return f"{_HEAD}{suites}</testsuites>\n"
+
+
+def is_report(text: bytes) -> bool:
+    """Whether a text is that of a report, or none: no other file gives way to a report."""
+    return not text or text.startswith(_HEAD.encode())
 
 
 def write_report(path: Union[str, pathlib.Path], runs: Iterable[ScriptRun]) -> None:

@@ -1345,8 +1345,11 @@ class Commands(unittest.TestCase):
             (4, "--address localhost is no such value: an IPv4 address is four numbers below 256 with dots between them",
              ["serve", self.ADAPTER_FILE, "--address", "localhost"]),
             (6, "the report cannot be written", ["test", self.ADAPTER_FILE, passes, "--report", nowhere]),
+            (6, "the report is not written: another file is there", ["test", self.ADAPTER_FILE, passes, "--report", passes]),
         ]:
+            before = pathlib.Path(passes).read_text()
             self.assertEqual(self.performed(*words), (status, [], [f"eip: {said}"]), words)
+            self.assertEqual(pathlib.Path(passes).read_text(), before)
 
     def test_records_are_traces_and_names_differ(self):
         self.assertEqual(eip_command.names_of(["a/x.profile", "y", "b/x.profile", "x", "\udcff\n.b"]), ["x", "y", "x-2", "x-3", "__"])
