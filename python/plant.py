@@ -144,7 +144,7 @@ class Member:
     def frame(self, peer: Member, data: bytes) -> Answer:
         """A message arrives now over a stream of a peer, whoever wrote it."""
         for number, stream in self._streams.items():
-            if peer in stream.ends:
+            if peer is not self and peer in stream.ends:
                 return self._perform(functools.partial(self.device.frame, number, data))
         raise ValueError(f"no stream of {peer} is open at {self}")
 

@@ -623,6 +623,8 @@ class Plants(unittest.TestCase):
         with self.assertRaises(ValueError):
             adapter.frame(scanner, UNREGISTER)
         plant.run_until(1_500)
+        with self.assertRaises(ValueError):
+            adapter.frame(adapter, UNREGISTER)
         scanner.stop(0)
         plant.run_until(1_500)
         self.assertEqual(self.states(scanner)[-2:], [(1_500, SlotState.CLOSING), (1_500, SlotState.IDLE)])
