@@ -4,7 +4,7 @@
     python3 -m eip serve PROFILE [--script FILE] [--report FILE] [--seconds N]
 
 The status is 0, or that of `eip_station` for the same failure: 2 a wrong word, 3 a file that is no profile or no script, 4 an address
-that is not of this host, 5 a port, 6 a report that cannot be written, 7 no memory, 8 a script has not passed. 1 is another end
+that is not of this host, 5 a port, 6 a report that is not written, 7 no memory, 8 a script has not passed. 1 is another end
 before its time.
 """
 
@@ -35,6 +35,7 @@ EARLY, WORDS, UNREAD, OTHER_HOST, PORT, REPORT, NO_MEMORY, UNPASSED = 1, 2, 3, 4
 _CALLS = ("write", "read", "answer", "counters")
 _LONGEST_LINE = 8192
 _LONGEST_FILE = 16_777_216
+_FRONT = 4096
 
 
 class Failure(Exception):
@@ -100,13 +101,19 @@ def words_of(profile: str, kind: str) -> list[list[str]]:
     return [line.split() for line in profile.split("\n") if line.startswith(f"{kind} ")]
 
 
+def read_front(place: pathlib.Path) -> bytes:
+    """The front of a file, as much as says whether it is a report."""
+    with place.open("rb") as file:
+        return file.read(_FRONT)
+
+
 def begin_report(path: Optional[str]) -> None:
     """Writes that the run has not ended: so a file that cannot be written ends it before it begins. Another file stays as it is."""
     if path is None:
         return
     place = pathlib.Path(path)
     try:
-        if place.is_file() and not is_report(place.read_bytes()):
+        if place.is_file() and not is_report(read_front(place)):
             raise Failure(REPORT, "the report is not written: another file is there")
         place.write_bytes(begun_report().encode())
     except OSError as fault:
