@@ -67,6 +67,23 @@ class Status(enum.IntEnum):
     NULL = 20
     """The device is closed."""
 
+    @property
+    def sentence(self) -> str:
+        """What it says, in the words that a station has for it."""
+        return _SENTENCES.get(self, self.name)
+
+
+_SENTENCES = {
+    Status.REFUSED_NO_MEMORY: "no memory",
+    Status.TICK_TOO_LONG: "a tick of more than 60000 ms",
+    Status.CLOCK_END: "the clock is at its end",
+    Status.NO_SUCH_POINT: "no such point",
+    Status.WRONG_LENGTH: "not the point's length",
+    Status.NO_SUCH_SLOT: "no such slot",
+    Status.NOT_ALLOWED_NOW: "not allowed now",
+    Status.LONG_NAME: "a name has 0 to 32 bytes",
+}
+
 
 # (looked up at every event, so they are plain numbers)
 _DONE, _NO_ROOM = int(Status.DONE), int(Status.KEPT_NO_ROOM)
@@ -201,6 +218,25 @@ class ProfileFault(enum.IntEnum):
     OBJECTS = 10
     """The classes of the maker's own objects."""
 
+    @property
+    def sentence(self) -> str:
+        """What it says, in the words that a station has for it."""
+        return _PROFILE_SENTENCES[self]
+
+
+_PROFILE_SENTENCES = {
+    ProfileFault.INCARNATION: "the incarnation is 0",
+    ProfileFault.ADDRESS: "the address or its mask is none",
+    ProfileFault.POINTS: "no input, or more than 8 inputs or outputs",
+    ProfileFault.SAME_INSTANCE: "two points have one instance",
+    ProfileFault.LENGTH: "a point's length is out of range",
+    ProfileFault.TIMING: "a time is out of range",
+    ProfileFault.IDENTITY: "the revision is out of range",
+    ProfileFault.DESCRIPTION: "the description is out of range",
+    ProfileFault.LIMITS: "a limit of the maker's is out of range",
+    ProfileFault.OBJECTS: "a class of the maker's own is out of range",
+}
+
 
 # ERRORS
 
@@ -216,8 +252,17 @@ class EipError(Exception):
 class Refused(EipError):
     """The device refused the event, and is unchanged. Making one: there is no device."""
 
-    def __init__(self, status: Status) -> None:
-        super().__init__(status, status.name)
+    def __init__(self, status: Status, text: str = "") -> None:
+        super().__init__(status, text or status.sentence)
+
+
+class OtherLife(Refused):
+    """The request that is answered was made to another life of the device, which has numbered its requests anew."""
+
+    def __init__(self, number: int, life: int, now: int) -> None:
+        super().__init__(Status.NOT_ALLOWED_NOW, f"request {number} is of life {life}, and the device is in life {now}")
+        self.life = life
+        """The life of the request."""
 
 
 class AnswerKept(EipError):
@@ -247,7 +292,7 @@ class BadProfile(EipError):
     """Every line reads, and the profile has a fault."""
 
     def __init__(self, fault: ProfileFault) -> None:
-        super().__init__(Status.BAD_PROFILE, f"bad profile {int(fault)}: {fault.name}")
+        super().__init__(Status.BAD_PROFILE, f"bad profile {int(fault)}: {fault.sentence}")
         self.fault = fault
 
 
@@ -290,6 +335,8 @@ class Datagram:
     nodes: tuple[str, ...]
     """The nodes that consume it. A network without groups sends a copy to each."""
     data: bytes
+    life: int = 1
+    """The life of the device that sends it."""
 
 
 @dataclass(frozen=True)
@@ -386,6 +433,8 @@ class AskedRequest:
     attribute: Optional[int]
     """None if the path has none."""
     data: bytes
+    life: int = 1
+    """The life of the device to which it was made."""
 
 
 @dataclass(frozen=True)
@@ -402,6 +451,8 @@ class Answer:
     """The request that the application is to answer, if the verdict is ASKED."""
     delivery: Optional[Delivery] = None
     """DUPLICATE, UNKNOWN_ID or WRONG_SIZE, if the verdict is DELIVERED."""
+    life: int = 1
+    """The life of the device that answers (`Device.life`)."""
 
     @property
     def frames(self) -> tuple[Frame, ...]:
@@ -483,7 +534,6 @@ _VERDICTS = {int(verdict): verdict for verdict in Verdict}
 _NOTICES = {int(kind): kind for kind in NoticeKind}
 _DELIVERIES = tuple(Delivery)
 _HEAD_SIZE = _HEAD.size
-_PLAIN = Answer(Verdict.DONE)
 
 
 def _notice(kind: NoticeKind, a: int, b: int, c: int, d: int) -> Notice:
@@ -514,8 +564,8 @@ def _consumed(datagram: Item, nodes: list[str]) -> Item:
     return replace(datagram, nodes=tuple(nodes)) if isinstance(datagram, Datagram) else datagram
 
 
-def read_answer(raw: bytes) -> Answer:
-    """Reads the bytes of an answer: the items that include/eip.h describes."""
+def read_answer(raw: bytes, life: int = 1) -> Answer:
+    """Reads the bytes of an answer of this life: the items that include/eip.h describes."""
     verdict = Verdict.DONE
     reply: Optional[ExplicitReply] = None
     asked: Optional[AskedRequest] = None
@@ -535,7 +585,7 @@ def read_answer(raw: bytes) -> Answer:
             items[-1] = _consumed(items[-1], nodes)
             nodes = []
         if kind == _DATAGRAM:
-            items.append(Datagram(node_text(a), (), data))
+            items.append(Datagram(node_text(a), (), data, life))
         elif kind == _FRAME:
             items.append(Frame(a, data))
         elif kind == _REPLY:
@@ -549,14 +599,14 @@ def read_answer(raw: bytes) -> Answer:
             if kind == _REPLIED:
                 reply = ExplicitReply(a, b, b"", data)
             if kind == _ASKED:
-                asked = AskedRequest(a | b << 32, c, 0, 0, None, data)
+                asked = AskedRequest(a | b << 32, c, 0, 0, None, data, life)
             if kind == _DELIVERED:
                 delivery = _DELIVERIES[a]
         else:
             items.append(_notice(_NOTICES[kind], a, b, c, d))
     if nodes:
         items[-1] = _consumed(items[-1], nodes)
-    return Answer(verdict, tuple(items), reply, asked, delivery)
+    return Answer(verdict, tuple(items), reply, asked, delivery, life)
 
 
 # ADDRESSES
@@ -685,9 +735,16 @@ def _library() -> ctypes.CDLL:
 
 def _number(value: int, most: int, what: str) -> int:
     """A number that its C type can hold. ctypes would cut off what is too much."""
+    if not isinstance(value, int):
+        raise TypeError(f"{what} {value!r} is no whole number")
     if not 0 <= value <= most:
         raise ValueError(f"{what} {value} is not within 0 to {most}")
     return value
+
+
+def _no_bytes(data: object) -> TypeError:
+    """The error of a call to which something else than bytes is given."""
+    return TypeError(f"{data!r} has the type {type(data).__name__}, and data are bytes")
 
 
 # DEVICES
@@ -721,6 +778,7 @@ class Device:
         self._room = ctypes.create_string_buffer(max(room, 1))
         self._length = room
         self._now_ms = 0
+        self.life = 1
         number = ctypes.c_uint64()
         status = self._calls.eip_c_new(text, len(text), self._at, ctypes.byref(number))
         if status == Status.BAD_LINE:
@@ -735,6 +793,8 @@ class Device:
         self._is_open = True
         first = next(line.split() for line in text.split(b"\n") if line and not line.startswith(b"#"))
         self.is_scanner: bool = first[0] == b"scanner"
+        self.incarnation: int = int(first[1])
+        """The incarnation of its profile: the first byte of each connection id that it gives."""
         self.node: str = first[2].decode()
         """The device's own address, as its profile has it."""
 
@@ -742,6 +802,23 @@ class Device:
     def from_file(cls: type[SomeDevice], path: Union[str, os.PathLike[str]]) -> SomeDevice:
         """Makes a device from the profile in a file."""
         return cls(pathlib.Path(path).read_text(encoding="utf-8"))
+
+    # Lives
+
+    @property
+    def life(self) -> int:
+        """Which life of its device this is: 1, unless another one has begun in its place. Each answer says it.
+
+        Whoever puts a new device in the place of another one counts it on, as `plant.Member.restart` does.
+        """
+        return self._life
+
+    @life.setter
+    def life(self, life: int) -> None:
+        if life < 1:
+            raise ValueError(f"life {life} is none: the first one is 1")
+        self._life = _number(life, 0xFFFFFFFF, "life")
+        self._plain = Answer(Verdict.DONE, life=life)
 
     # Closing
 
@@ -793,7 +870,11 @@ class Device:
         with self._lock:
             if not self._is_open:
                 raise DeviceClosed
-            return _DELIVERIES[self._calls.eip_c_datagram(self._at, node, data, len(data))]
+            try:
+                delivery: int = self._calls.eip_c_datagram(self._at, node, data, len(data))
+            except ctypes.ArgumentError:
+                raise _no_bytes(data) from None
+            return _DELIVERIES[delivery]
 
     def inquire(self, peer: Address, data: bytes) -> Answer:
         """A peer sends an encapsulation message over no stream: a datagram at the encapsulation port, 44818.
@@ -811,14 +892,23 @@ class Device:
         number = _number(number, 0xFFFFFFFF, "number")
         return self._event(self._calls.eip_c_explicit, node_number(target), number, data, len(data))
 
-    def respond(self, number: int, status: int = 0, data: bytes = b"") -> Answer:
-        """Answers the request of `Answer.asked` with this number: a general status, 0 for success, and the data of the reply.
+    def respond(self, request: Union[int, AskedRequest], status: int = 0, data: bytes = b"") -> Answer:
+        """Answers the request of `Answer.asked`, or that of this number: a general status, 0 for success, and the data of the reply.
 
         What is to be sent is in `frames`, or in `replies` if the request came without a stream. Refused if no request of this
-        number waits, as 10,000 ms after it came, and with more than 1,400 bytes.
+        number waits, as 10,000 ms after it came, and with more than 1,400 bytes. Raises OtherLife for a request to another life;
+        a number alone does not say its life.
         """
-        number = _number(number, 0xFFFFFFFFFFFFFFFF, "number")
+        number = self._requested(request)
         return self._event(self._calls.eip_c_respond, number, _number(status, 0xFF, "status"), data, len(data))
+
+    def _requested(self, request: Union[int, AskedRequest]) -> int:
+        """The number of a request to this life."""
+        if not isinstance(request, AskedRequest):
+            return _number(request, 0xFFFFFFFFFFFFFFFF, "number")
+        if request.life != self.life:
+            raise OtherLife(request.number, request.life, self.life)
+        return request.number
 
     def counters(self, data: bytes) -> Answer:
         """The host says what it has counted of the interface of a described adapter: 92 bytes, eleven numbers of the interface and
@@ -958,7 +1048,10 @@ class Device:
             if not self._is_open:
                 raise DeviceClosed
             room = self._room
-            status = call(self._at, *words, room, self._length, self._count)
+            try:
+                status = call(self._at, *words, room, self._length, self._count)
+            except ctypes.ArgumentError:
+                raise _no_bytes(next((word for word in words if not isinstance(word, (int, bytes))), words)) from None
             if status == _NO_ROOM:
                 status, room = self._requested_again(self._size.value)
             if status == _DONE:
@@ -966,8 +1059,8 @@ class Device:
                 size = self._size.value
                 # (one item that begins with the byte of Verdict.DONE: nearly every tick answers that)
                 if size == _HEAD_SIZE and room[0] == b"\1":
-                    return _PLAIN
-                return read_answer(ctypes.string_at(room, size))
+                    return self._plain
+                return read_answer(ctypes.string_at(room, size), self._life)
             if status == _NO_ROOM:
                 self._now_ms += passed_ms
                 raise AnswerKept
@@ -1035,6 +1128,17 @@ def inquiry(identity: Identity, message: bytes) -> Optional[bytes]:
     )
     if status == Status.NO_INQUIRY:
         return None
+    if status == Status.LONG_NAME:
+        raise Refused(Status.LONG_NAME, f"the name has {len(name)} bytes, and a name has 0 to 32")
     if status != Status.DONE:
         raise Refused(Status(status))
     return ctypes.string_at(room, size.value)
+
+
+if __name__ == "__main__":
+    # (python3 -m eip: docs/PYTHON.md)
+    import sys
+
+    import eip_command
+
+    sys.exit(eip_command.main())

@@ -15,13 +15,23 @@ same seed gives the same run. Nothing waits: a minute of the plant takes about h
 from __future__ import annotations
 
 import collections
+import functools
 import heapq
 import itertools
 import random
-from dataclasses import dataclass, field
-from typing import Any, Callable, Optional
+from dataclasses import dataclass, field, replace
+from typing import TYPE_CHECKING, Any, Callable, Optional, Protocol, TypeVar
 
-from eip import Answer, Datagram, Delivery, Device, Notice, Refused, StreamNotice
+from eip import Answer, Datagram, Delivery, Device, DeviceClosed, Notice, Refused, StreamNotice, TimedAnswer
+from plant_script import ScriptRun, read_script
+
+if TYPE_CHECKING:
+    from typing_extensions import Concatenate, ParamSpec
+
+    Words = ParamSpec("Words")
+
+Known = TypeVar("Known")
+_LONGEST_TICK_MS = 60_000
 
 
 @dataclass(frozen=True)
@@ -36,8 +46,50 @@ class Faults:
     """The least and the greatest delay. Each copy of a datagram and each message of a stream draws its own."""
 
 
+def _event(call: Callable[Concatenate[Device, Words], Answer]) -> Callable[Concatenate[Member, Words], Answer]:
+    """A call of a device that is an event, as that of a member: at the present time of the plant, and its answer is sent."""
+
+    @functools.wraps(call)
+    def performed(member: Member, /, *words: Words.args, **named: Words.kwargs) -> Answer:
+        of_the_device: Callable[..., Answer] = getattr(member.device, call.__name__)
+        return member._perform(lambda: of_the_device(*words, **named))
+
+    return performed
+
+
+def _state(call: Callable[Concatenate[Device, Words], Known]) -> Callable[Concatenate[Member, Words], Known]:
+    """A call of a device that says what it knows, as that of a member: at the present time of the plant, unless it pauses."""
+
+    @functools.wraps(call)
+    def known(member: Member, /, *words: Words.args, **named: Words.kwargs) -> Known:
+        member.pass_time()
+        of_the_device: Callable[..., Known] = getattr(member.device, call.__name__)
+        return of_the_device(*words, **named)
+
+    return known
+
+
 class Member:
-    """A device in a plant. Its calls are those of `Device`, at the present time of the plant."""
+    """A device in a plant. It has the calls of its device, at the present time of the plant.
+
+    Streams, ticks and the end are the plant's: `Plant.connect`, `Plant.cut`, `Plant.run_until`, `Plant.close`. So `frame` names the
+    peer in place of a stream, and `cut` breaks every stream.
+    """
+
+    request = _event(Device.request)
+    inquire = _event(Device.inquire)
+    explicit = _event(Device.explicit)
+    respond = _event(Device.respond)
+    counters = _event(Device.counters)
+    write = _event(Device.write)
+    mode = _event(Device.mode)
+    start = _event(Device.start)
+    stop = _event(Device.stop)
+    read = _state(Device.read)
+    owner = _state(Device.owner)
+    connection = _state(Device.connection)
+    slot = _state(Device.slot)
+    next_wake = _state(Device.next_wake)
 
     def __init__(self, plant: Plant, device: Device, name: str) -> None:
         self.plant, self.device, self.name = plant, device, name
@@ -47,32 +99,39 @@ class Member:
         """How often a datagram had each delivery here."""
         self.notices: list[tuple[int, Notice]] = []
         """Every notice of the device, with the time of the plant."""
-        self._began_ms = plant.now_ms
+        self.answers: list[TimedAnswer] = []
+        """Each answer that says more than what is sent, with the time of the plant: notices, the reply of a target, a request to an
+        object of the maker's own, or a message of a class 3 connection that is not executed. It knows its life."""
+        self.watch: Optional[Callable[[Answer], object]] = None
+        """Is called with each answer that `answers` takes, once it is sent. It may call the member, as to respond."""
+        self._began_ms = plant.now_ms - device.now_ms
         self._wake_ms = -1
-        self._streams: dict[int, _Stream] = {}
+        self._streams: dict[int, Stream] = {}
+        self._resume_ms = 0
+        self.script_run: Optional[ScriptRun] = None
+        """Its script, if it has one."""
 
     def __repr__(self) -> str:
         return f"<{self.name}>"
 
-    def write(self, point: int, data: bytes) -> Answer:
-        """The application sets the value of a point."""
-        return self._perform(lambda: self.device.write(point, data))
+    @property
+    def life(self) -> int:
+        """Which life of the device this is, from 1 on: a restart begins the next one."""
+        return self.device.life
 
-    def read(self, point: int) -> bytes:
-        """The value of a point, or of the image of a slot."""
-        return self.device.read(point)
+    @property
+    def is_scanner(self) -> bool:
+        """Whether the device is a scanner."""
+        return self.device.is_scanner
 
-    def mode(self, run: bool) -> Answer:
-        """The application of a scanner starts to run, or becomes idle."""
-        return self._perform(lambda: self.device.mode(run))
+    @property
+    def now_ms(self) -> int:
+        """How many milliseconds have passed in the present life of the device."""
+        return self.device.now_ms
 
-    def start(self, slot: int) -> Answer:
-        """A scanner opens the connection of a slot, and keeps it open."""
-        return self._perform(lambda: self.device.start(slot))
-
-    def stop(self, slot: int) -> Answer:
-        """A scanner closes the connection of a slot."""
-        return self._perform(lambda: self.device.stop(slot))
+    def answer(self) -> Answer:
+        """The answer that the device keeps, again: that of its last event, a tick too."""
+        return self.device.answer()
 
     def datagram(self, peer: str, data: bytes) -> Delivery:
         """A datagram arrives now, in the name of any peer: one of a test's own, or one that was sent before."""
@@ -84,21 +143,26 @@ class Member:
 
     def frame(self, peer: Member, data: bytes) -> Answer:
         """A message arrives now over a stream of a peer, whoever wrote it."""
-        number = next((number for number, stream in self._streams.items() if peer in stream.ends), None)
-        if number is None:
-            raise ValueError(f"no stream of {peer} is open at {self}")
-        return self._perform(lambda: self.device.frame(number, data))
+        for number, stream in self._streams.items():
+            if peer is not self and peer in stream.ends:
+                return self._perform(functools.partial(self.device.frame, number, data))
+        raise ValueError(f"no stream of {peer} is open at {self}")
 
     def restart(self, device: Device) -> None:
-        """The power fails and comes back: another device begins at this address, and all streams break."""
+        """The power fails and comes back: another device begins at this address, in the next life, and all streams break."""
         if device.node != self.node:
             raise ValueError(f"{device.node} is not the address of {self}")
+        if device is self.device:
+            raise ValueError(f"{self} restarts with another device: this one ends")
+        if device.is_closed:
+            raise DeviceClosed
         for stream in list(self.plant.streams):
             if self in stream.ends:
                 stream.cut()
+        device.life = self.life + 1
         self.device.close()
         self.device = device
-        self._began_ms = self.plant.now_ms
+        self._began_ms = self.plant.now_ms - device.now_ms
         self._plan_wake()
 
     def unplug(self) -> None:
@@ -112,6 +176,74 @@ class Member:
             if self in stream.ends:
                 stream.go_on()
 
+    def pause(self, ms: int) -> None:
+        """The device takes nothing and sends nothing for so long; then it takes what has waited."""
+        self._resume_ms = self.plant.now_ms + ms
+
+    @property
+    def is_paused(self) -> bool:
+        """Whether the device takes nothing now."""
+        return self.plant.now_ms < self._resume_ms
+
+    @property
+    def resume_ms(self) -> int:
+        """When its last pause ends, by the time of the plant."""
+        return self._resume_ms
+
+    @property
+    def clock_ms(self) -> int:
+        """The time of the plant up to which the device has come: its clock."""
+        return self._began_ms + self.device.now_ms
+
+    def pass_time(self) -> None:
+        """Gives the device the time that has passed, unless it pauses."""
+        if not self.is_paused:
+            self._catch_up()
+            self._plan_wake()
+
+    def free_number(self) -> int:
+        """The least number that no stream of the device has."""
+        return next(it for it in itertools.count() if it not in self._streams)
+
+    def accept(self, number: int, stream: Stream, peer: str) -> None:
+        """A stream of a peer opens at the device, under this number. Raises Refused if the device takes no more."""
+        self._streams[number] = stream
+        try:
+            self._perform(lambda: self.device.stream(number, peer))
+        except Refused:
+            del self._streams[number]
+            raise
+
+    def take(self, number: int, frame: bytes) -> None:
+        """A message arrives over the stream of this number."""
+        self._perform(lambda: self.device.frame(number, frame))
+
+    def lose(self, number: int) -> None:
+        """The stream of this number breaks, or its peer closed it."""
+        del self._streams[number]
+        self._perform(lambda: self.device.cut(number))
+
+    def cut(self) -> None:
+        """Each stream of the device breaks."""
+        for stream in list(self.plant.streams):
+            if self in stream.ends:
+                stream.cut()
+
+    def send(self, node: str, data: bytes) -> None:
+        """A datagram of these bytes is sent from the device's address, whatever they are."""
+        member = self.plant.members.get(node)
+        if member is not None:
+            self.plant.at(self.plant.now_ms + self.plant.delay(), self.plant._arrive, member, self.node, data)
+        elif self.plant.outside and self.is_plugged:
+            self.plant.outside(self, Datagram(node, (node,), data, self.life))
+
+    def script(self, text: str) -> ScriptRun:
+        """Has the device do what the lines of a script say, from now on, and judges what they expect (`plant_script.py`)."""
+        run = ScriptRun(self, read_script(text))
+        self.script_run = run
+        run.plan()
+        return run
+
     def _perform(self, call: Callable[[], Answer]) -> Answer:
         """One event at the present time, whose answer is sent."""
         self._catch_up()
@@ -120,11 +252,14 @@ class Member:
         self._plan_wake()
         return answer
 
-    def _catch_up(self) -> None:
-        """Gives the device the time that passed."""
-        late = self.plant.now_ms - self._began_ms - self.device.now_ms
-        if late:
-            self._send(self.device.tick(late))
+    def _late_ms(self) -> int:
+        """The time that has passed, and that the device has not been given."""
+        return self.plant.now_ms - self._began_ms - self.device.now_ms
+
+    def _catch_up(self, most: int = 0) -> None:
+        """Gives the device the time that passed, up to the last so many milliseconds."""
+        while self._late_ms() > most:
+            self._send(self.device.tick(min(self._late_ms() - most, _LONGEST_TICK_MS)))
 
     def _plan_wake(self, least: int = 0) -> None:
         """Plans the next tick that the device needs."""
@@ -138,8 +273,12 @@ class Member:
         """A tick that the device needs. Another event may have planned a later one."""
         if self._wake_ms != planned_ms:
             return
+        if self.is_paused:
+            self.plant.at(self._resume_ms, self._wake, planned_ms)
+            return
         self._wake_ms = -1
-        late = self.plant.now_ms - self._began_ms - self.device.now_ms
+        self._catch_up(_LONGEST_TICK_MS)
+        late = self._late_ms()
         answer = self.device.tick(late)
         self._send(answer)
         self._plan_wake(1 if answer.is_plain and not late else 0)
@@ -154,12 +293,17 @@ class Member:
                 stream.send(self, frame.data)
         for datagram in answer.datagrams:
             self.plant.send(self, datagram)
-        for notice in answer.notices:
+        notices = answer.notices
+        for notice in notices:
             self.notices.append((self.plant.now_ms, notice))
             if isinstance(notice, StreamNotice):
                 stream = self._streams.pop(notice.stream, None)
                 if stream:
                     stream.closed_by(self)
+        if notices or answer.reply or answer.asked or answer.delivery is not None:
+            self.answers.append(TimedAnswer(self.plant.now_ms, answer))
+            if self.watch:
+                self.watch(answer)
 
 
 @dataclass
@@ -173,6 +317,26 @@ class _End:
     """What is on the way to this end: frames, and None for the mark that the stream opens or has ended."""
     held: int = 0
     """How many of these would have arrived, but a cable is pulled."""
+
+
+class Stream(Protocol):
+    """A stream of a member: to another member, or to a peer that is in no plant (`plant_sockets.py`)."""
+
+    @property
+    def ends(self) -> tuple[Member, ...]:
+        """The members at its ends."""
+
+    def send(self, sender: Member, frame: bytes) -> None:
+        """A device sends a frame."""
+
+    def closed_by(self, member: Member) -> None:
+        """A device closed the stream, behind the frames that it sent."""
+
+    def cut(self) -> None:
+        """The stream breaks: what is on the way is lost."""
+
+    def go_on(self) -> None:
+        """A cable is back."""
 
 
 class _Stream:
@@ -197,7 +361,9 @@ class _Stream:
 
     def _take(self, end: _End) -> None:
         """The first item that waits for an end arrives."""
-        if not all(member.is_plugged for member in self.ends):
+        if end.member.is_paused:
+            self.plant.at(end.member._resume_ms, self._take, end)
+        elif not all(member.is_plugged for member in self.ends):
             end.held += 1
         elif end.waiting:
             item = end.waiting.popleft()
@@ -210,33 +376,28 @@ class _Stream:
                 self._plan_again()
 
     def _frame(self, end: _End, frame: bytes) -> None:
-        number = end.number
-        if number is not None:
-            end.member._perform(lambda: end.member.device.frame(number, frame))
+        if end.number is not None:
+            end.member.take(end.number, frame)
 
     def _opened(self, end: _End) -> None:
-        """The stream opens at an end, with the least free number of its device.
+        """The stream opens at an end, with the least free number of its device (`Member.accept`).
 
         The second end may refuse it, and then the first one is cut. One that its first end refuses is a fault of the test.
         """
         member, other = end.member, self._other(end)
-        number = next(it for it in itertools.count() if it not in member._streams)
-        end.number = number
-        member._streams[number] = self
+        end.number = member.free_number()
         try:
-            member._perform(lambda: member.device.stream(number, other.member.node))
+            member.accept(end.number, self, other.member.node)
         except Refused:
             if end is self._ends[0]:
                 raise
-            del member._streams[number]
             self.closed_by(member)
 
     def _ended(self, end: _End) -> None:
         """The stream ends at an end, if it had opened there."""
         number, end.number = end.number, None
         if number is not None:
-            del end.member._streams[number]
-            end.member._perform(lambda: end.member.device.cut(number))
+            end.member.lose(number)
 
     def _other(self, end: _End) -> _End:
         return self._ends[1] if end is self._ends[0] else self._ends[0]
@@ -295,15 +456,19 @@ class Plant:
         """May be exchanged at any time."""
         self.members: dict[str, Member] = {}
         """The devices by their addresses."""
-        self.streams: list[_Stream] = []
+        self.streams: list[Stream] = []
         self.watch: Optional[Callable[[Member, Datagram], None]] = None
         """Is called with each datagram that a device sends, and its sender, before the network loses it or not."""
+        self.outside: Optional[Callable[[Member, Datagram], object]] = None
+        """Is called with what a device sends to nodes that no member has: these are the nodes of the datagram."""
         self._random = random.Random(seed).random
         self._planned: list[tuple[int, int, Callable[..., object], tuple[Any, ...]]] = []
         self._order = itertools.count()
 
     def add(self, device: Device, name: str = "") -> Member:
         """Puts a device on the network, at the address that its profile has. The plant closes it."""
+        if device.is_closed:
+            raise DeviceClosed
         if device.node in self.members:
             raise ValueError(f"two devices have the address {device.node}")
         member = Member(self, device, name or device.node)
@@ -334,15 +499,29 @@ class Plant:
 
         self.at(next_ms, again)
 
+    @property
+    def next_ms(self) -> Optional[int]:
+        """When the next thing is planned. Until then nothing happens by itself."""
+        return self._planned[0][0] if self._planned else None
+
     def run_until(self, end_ms: int) -> None:
         """Time passes until then, with all that is planned and sent. Every device has this time afterwards."""
         planned = self._planned
         while planned and planned[0][0] <= end_ms:
             self.now_ms, _, action, words = heapq.heappop(planned)
             action(*words)
+            self._look()
         self.now_ms = max(self.now_ms, end_ms)
         for member in self.members.values():
-            member._catch_up()
+            if not member.is_paused:
+                member._catch_up()
+        self._look()
+
+    def _look(self) -> None:
+        """Judges what the scripts expect."""
+        for member in self.members.values():
+            if member.script_run is not None:
+                member.script_run.look()
 
     def delay(self) -> int:
         """Draws the delay of one message."""
@@ -353,6 +532,10 @@ class Plant:
         """The network takes a datagram of a device: each node that consumes it receives a copy, two or none."""
         if self.watch:
             self.watch(sender, datagram)
+        if self.outside and sender.is_plugged:
+            nodes = tuple(node for node in datagram.nodes if node not in self.members)
+            if nodes:
+                self.outside(sender, replace(datagram, nodes=nodes))
         for node in datagram.nodes:
             member = self.members.get(node)
             if member is None or not sender.is_plugged or self._random() < self.faults.lost:
@@ -362,7 +545,9 @@ class Plant:
                 self.at(self.now_ms + self.delay(), self._arrive, member, sender.node, datagram.data)
 
     def _arrive(self, member: Member, peer: str, data: bytes) -> None:
-        if member.is_plugged:
+        if member.is_paused:
+            self.at(member._resume_ms, self._arrive, member, peer, data)
+        elif member.is_plugged:
             member.datagram(peer, data)
 
     def close(self) -> None:

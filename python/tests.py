@@ -8,21 +8,31 @@ import io
 import os
 import pathlib
 import re
+import socket
+import sys
+import tempfile
 import threading
+import time
 import types
 import typing
 import unittest
 
 import eip
+import eip_command
+import fault_words
 import plant
+import plant_script
+import plant_sockets
 import trace_lines
 from eip import (
     Answer, AnswerKept, AskedRequest, BadLine, BadProfile, Connection, ConnectionKind, ConnectionNotice, Datagram, Delivery, Device,
-    DeviceClosed, Frame, Identity, Mode, NoAnswer, NoticeKind, ProfileFault, RefusalNotice, Refused, Reply, ResetNotice, Slot,
+    DeviceClosed, Frame, Identity, Mode, NoAnswer, NoticeKind, OtherLife, ProfileFault, RefusalNotice, Refused, Reply, ResetNotice, Slot,
     SlotNotice, SlotState, Status, ExplicitReply, UnansweredNotice,
     StreamNotice, Verdict, inquiry, node_number, node_text, read_answer,
 )
 from plant import Faults, Plant
+from plant_script import BadScript, Judgement, judged, read_script, report_text
+from plant_sockets import PortRefused, Sockets
 from trace_lines import RecordedDevice, outcome_lines
 
 TOP = pathlib.Path(__file__).resolve().parent.parent
@@ -312,6 +322,14 @@ class Devices(unittest.TestCase):
                 lambda: device.read(1 << 32),
             ):
                 self.assertRaises(ValueError, call)
+            for call, text in [
+                (lambda: device.write(100, "abcd"), "'abcd' has the type str, and data are bytes"),
+                (lambda: device.datagram(OWNER, bytearray(1)), "bytearray(b'\\x00') has the type bytearray, and data are bytes"),
+                (lambda: device.tick(1.5), "milliseconds 1.5 is no whole number"),
+            ]:
+                with self.assertRaises(TypeError) as caught:
+                    call()
+                self.assertEqual(str(caught.exception), text)
         self.assertEqual((node_number("192.168.1.10"), node_text(0xC0A8010A)), (0xC0A8010A, "192.168.1.10"))
 
     def test_threads_share_a_device(self):
@@ -605,6 +623,8 @@ class Plants(unittest.TestCase):
         with self.assertRaises(ValueError):
             adapter.frame(scanner, UNREGISTER)
         plant.run_until(1_500)
+        with self.assertRaises(ValueError):
+            adapter.frame(adapter, UNREGISTER)
         scanner.stop(0)
         plant.run_until(1_500)
         self.assertEqual(self.states(scanner)[-2:], [(1_500, SlotState.CLOSING), (1_500, SlotState.IDLE)])
@@ -746,9 +766,642 @@ class Plants(unittest.TestCase):
         self.assertNotEqual(traces(1), traces(2))
 
 
+class Scripts(unittest.TestCase):
+    """Section 39. The watchdog of the owner is 16 times 10 ms, and its last datagram in front of a pause at 3005 is that of 3000."""
+
+    def bench(self, stop="at 3005 pause 1000", end_ms=4000):
+        bench = Plant()
+        self.addCleanup(bench.close)
+        island, scanner = bench.add(Device(ADAPTER), "island"), bench.add(Device(SCANNER), "controller")
+        bench.connect(scanner, island)
+        scanner.start(0)
+        scanner.script(f"at 0 mode run\nat 0 write 0 11223344\n{stop}")
+        return bench, island, scanner, lambda: bench.run_until(end_ms)
+
+    def test_a_machine_stop_is_safe_within_twice_the_watchdog(self):
+        _, island, _, run = self.bench()
+        stop = island.script("""
+            at 3000 expect owner 150 run
+            at 3000 expect output 150 = 11223344
+            at 3005 expect within 320 owner 150 lost
+            at 3005 expect within 320 output 150 = 00000000
+            when owner 150 lost do expect output 150 = 00000000
+        """)
+        run()
+        self.assertEqual(stop.said, [
+            (3000, "met 1 owner 150 run after 0"), (3000, "met 2 output 150 = 11223344 after 0"),
+            (3160, "met 3 owner 150 lost after 155"), (3160, "met 4 output 150 = 00000000 after 155"),
+            (3160, "met 5 output 150 = 00000000 after 0"),
+        ])
+        self.assertTrue(stop.has_passed)
+        self.assertEqual(stop.words(), "island: its script has passed: 5 lines judge, 0 failed, 0 skipped")
+
+    def test_a_deadline_can_be_met_at_its_last_moment_and_not_behind_it(self):
+        # (it is lost at 3160: 155 behind 3005)
+        for within, said in (155, [(3160, "met 1 owner 150 lost after 155")]), (154, [(3160, "failed 1 owner 150 lost within 154, but lost")]):
+            _, island, _, run = self.bench()
+            stop = island.script(f"at 3005 expect within {within} owner 150 lost")
+            run()
+            self.assertEqual((stop.said, stop.has_passed), (said, within == 155))
+
+    def test_what_is_there_in_place_of_what_is_expected_is_said(self):
+        _, island, scanner, run = self.bench("")
+        lines = island.script("""
+            at 2000 expect within 10 output 150 = 00
+            at 2000 expect owner 150 idle
+            at 2000 expect owner 150 of 192.168.1.21
+            at 2000 expect output 77 = 00
+            at 2000 expect owner 77 none
+            at 2000 expect slot 0 idle
+        """)
+        slots = scanner.script("at 2000 expect slot 0 idle\nat 2000 expect image 0 = -\nat 2000 expect output 0 = 00000000")
+        run()
+        self.assertEqual([line.failure for line in lines.lines], [
+            "output 150 = 00 within 10, but 11223344", "owner 150 idle, but of 192.168.1.20 run",
+            "owner 150 of 192.168.1.21, but of 192.168.1.20 run", "output 77 = 00, but no such point", "owner 77 none, but no such point",
+            "slot 0 idle, but no such slot",
+        ])
+        self.assertEqual([line.failure for line in slots.lines], [
+            "slot 0 idle, but established", "image 0 = -, but 00000000", "output 0 = 00000000, but 00000000",
+        ])
+
+    def test_pass_and_fail_decide_a_script(self):
+        _, island, _, run = self.bench("")
+        passed = island.script("at 1000 expect owner 150 run\nat 2000 pass\nat 3000 expect owner 150 none\nat 3500 fail too late")
+        run()
+        self.assertEqual(passed.said, [(1000, "met 1 owner 150 run after 0"), (2000, "passed 2")])
+        self.assertEqual([verdict.value for _, verdict in passed.verdicts()], ["passed", "passed", "skipped", "passed"])
+        _, island, _, run = self.bench("")
+        failed = island.script("when owner 150 run do fail it has an owner\nat 2000 pass")
+        run()
+        self.assertEqual(failed.words().splitlines(), [
+            "island: script line 1: fail it has an owner: it has an owner", "island: its script has not passed: 2 lines judge, 1 failed, 1 skipped"])
+
+    def test_a_line_that_was_not_reached_has_not_passed(self):
+        _, island, _, run = self.bench("")
+        run_ = island.script("at 9000 expect owner 150 run\nwhen owner 150 lost do expect output 150 = 00000000")
+        run()
+        self.assertEqual((run_.has_passed, [verdict.value for _, verdict in run_.verdicts()]), (False, ["not reached", "not reached"]))
+
+    def test_lines_that_come_again_and_calls_behind_a_condition(self):
+        _, island, _, run = self.bench("")
+        lines = island.script("every 1000 expect owner 150 run\nat 500 when owner 150 run do write 100 01020304\nat 2000 expect output 100 = 01020304")
+        run()
+        self.assertEqual((lines.lines[0].met, lines.has_passed), (4, True))
+
+    def test_a_script_requests_and_answers(self):
+        """The controller asks class 100, and the island answers request 1; one that does not wait is refused, and decides nothing."""
+        plant = Plant()
+        self.addCleanup(plant.close)
+        island, scanner = plant.add(Device(Members.OWN), "island"), plant.add(Device(SCANNER), "controller")
+        plant.connect(scanner, island)
+        scanner.start(0)
+        scanner.script(f"at 100 explicit 192.168.1.10 7 {Members.GET_OWN.hex()}\nat 100 explicit 192.168.1.10 7 0e03\nat 200 explicit 192.168.1.11 8 0e03")
+        answers = island.script("at 150 answer 1 00 2a\nat 160 answer 1 00 -\nat 200 pass")
+        plant.run_until(300)
+        self.assertEqual(scanner.answers[-1], eip.TimedAnswer(150, Answer(Verdict.REPLIED, (), ExplicitReply(7, 0, b"", b"\x2a"))))
+        self.assertEqual((answers.said, answers.has_passed), ([(160, "refused 2 not allowed now"), (200, "passed 3")], True))
+        self.assertEqual(scanner.script_run.said, [(100, "refused 2 not allowed now"), (200, "refused 3 no such slot")])
+
+    def test_bad_lines_have_their_sentences(self):
+        for text, line, wrong in [
+            ("at soon pass", 1, "a time is a number of milliseconds up to 4294967295, and behind every it is not 0"),
+            ("# a\n\nevery 0 pass", 3, "a time is a number of milliseconds up to 4294967295, and behind every it is not 0"),
+            ("device a b", 1, "a line of a script begins with at, every or when"),
+            ("when owner 150 lost write 100 01", 1, "behind when is a condition, and do, and what is done"),
+            ("at 1 fail ", 1, "behind fail is a text of 1 to 200 bytes without control characters"),
+            ("at 1 pass\nat 1 expect slot 0 open", 2, plant_script._NO_CONDITION),
+            ("at 1 expect within x slot 0 idle", 1, plant_script._NO_TIME),
+            ("at 1 restart", 1, plant_script._NO_CALL),
+            ("at 1 answer 1 0 -", 1, plant_script._NO_CALL),
+            ("at 1 explicit 1.2.3 4 0e03", 1, plant_script._NO_CALL),
+        ]:
+            with self.assertRaises(BadScript) as bad:
+                read_script(text)
+            self.assertEqual((bad.exception.line, bad.exception.wrong), (line, wrong), text)
+        with self.assertRaises(BadScript):
+            read_script("at 1 pass\n" * 257)
+
+    def test_a_judgement_is_that_of_the_moment(self):
+        self.assertEqual([judged(True, 2500, 2500), judged(False, 2500, 2500), judged(False, 2501, 2500), judged(True, 2501, 2500)],
+                         [Judgement.MET, Judgement.WAITING, Judgement.FAILED, Judgement.FAILED])
+
+    def test_the_report_is_xml(self):
+        _, island, _, run = self.bench("")
+        failed = island.script('at 100 fail a<b & "c">')
+        run()
+        self.assertEqual(report_text([failed]), '''<?xml version="1.0" encoding="UTF-8"?>
+<testsuites>
+  <testsuite name="island" tests="1" failures="1" skipped="0">
+    <testcase classname="island" name="1: fail a&lt;b &amp; &quot;c&quot;&gt;" time="0.000">
+      <failure message="a&lt;b &amp; &quot;c&quot;&gt;"/>
+    </testcase>
+  </testsuite>
+</testsuites>
+''')
+
+    def test_somebody_elses_adapter_that_keeps_its_output_fails_with_a_sentence(self):
+        """The owner pauses at 3000; the watcher opens once the target has dropped it, and reads the output, which the input repeats."""
+        sys.path.append(str(TOP / "tools" / "peers"))
+        from virtual_adapter import VirtualAdapter
+        owner = "scanner 1 192.168.1.21 0 7 1000 1000\nslot 192.168.1.11 exclusive - 150 100 4 4 10000 10000 2 p2p - -\n"
+        watcher = "scanner 1 192.168.1.22 0 8 1000 1000\nslot 192.168.1.11 input - 152 100 0 4 10000 10000 2 p2p - -\n"
+        for keeps, failure in (False, None), (True, "image 0 = 00000000, but 11223344"):
+            with Plant() as bench:
+                target = bench.add(VirtualAdapter("192.168.1.11", keeps), "target")
+                owners, watchers = bench.add(Device(owner), "owner"), bench.add(Device(watcher), "watcher")
+                for scanner in owners, watchers:
+                    bench.connect(scanner, target)
+                    scanner.start(0)
+                first = owners.script("at 0 mode run\nat 0 write 0 11223344\nat 2000 expect image 0 = 11223344\nat 3000 pause 9000")
+                last = watchers.script("at 7000 expect slot 0 established\nat 7000 expect image 0 = 00000000")
+                bench.run_until(7500)
+                self.assertTrue(first.has_passed, first.words())
+                self.assertEqual([line.failure for line in last.lines], [None, failure])
+
+
+class Members(unittest.TestCase):
+    """A member has the calls of its device. On this network nothing takes time; the scanner sends and receives at 0, 10, 20, .."""
+
+    OWN = ADAPTER.replace("heartbeat", "object 100\nheartbeat")
+    # Get_Attribute_Single of the input 100, and of attribute 1 of instance 1 of the maker's own class 100
+    GET_INPUT, GET_OWN = bytes.fromhex("0e03200424643003"), bytes.fromhex("0e03206424013001")
+
+    def plant(self):
+        plant = Plant()
+        self.addCleanup(plant.close)
+        adapter, scanner = plant.add(Device(self.OWN), "adapter"), plant.add(Device(SCANNER), "scanner")
+        plant.connect(scanner, adapter)
+        scanner.start(0)
+        scanner.mode(True)
+        plant.run_until(95)
+        return plant, adapter, scanner
+
+    def test_each_call_of_a_device_is_one_of_a_member_or_of_its_plant(self):
+        of_the_plant = {
+            "stream": "connect", "tick": "run_until", "run_until": "run_until", "close": "close", "is_closed": "close",
+            "from_file": "add", "incarnation": "add", "node": "add",
+        }  # fmt: skip
+        calls = {name for name in dir(Device) if not name.startswith("_")}
+        self.assertEqual(calls - {name for name in dir(plant.Member) if not name.startswith("_")}, calls & set(of_the_plant))
+        for call in of_the_plant.values():
+            self.assertTrue(hasattr(Plant, call))
+        self.assertEqual(plant.Member.respond.__doc__, Device.respond.__doc__)
+
+    def test_states_are_those_of_the_present_time(self):
+        plant, adapter, scanner = self.plant()
+        ages = []
+        plant.at(98, lambda: ages.extend((adapter.owner(150).age_ms, scanner.slot(0).age_ms, adapter.connection(0).age_ms)))
+        self.assertEqual((adapter.owner(150).age_ms, scanner.slot(0).age_ms, adapter.connection(1)), (5, 5, None))
+        plant.run_until(99)
+        self.assertEqual(ages, [8, 8, 8])
+        self.assertEqual((adapter.next_wake(), adapter.now_ms, adapter.is_scanner, scanner.is_scanner), (1, 99, False, True))
+
+    def test_a_request_comes_back_as_an_answer(self):
+        plant, adapter, scanner = self.plant()
+        adapter.write(100, bytes.fromhex("01020304"))
+        scanner.explicit(adapter.node, 7, self.GET_INPUT)
+        plant.run_until(95)
+        reply = Answer(Verdict.REPLIED, (), ExplicitReply(7, 0, b"", bytes.fromhex("01020304")))
+        self.assertEqual(scanner.answers[-1], eip.TimedAnswer(95, reply))
+        # (without a stream, the reply is in the answer)
+        self.assertEqual(adapter.request(OWNER, self.GET_INPUT).replies[0].data, bytes.fromhex("8e000000" "01020304"))
+        self.assertEqual(adapter.answer(), adapter.device.answer())
+        # (a device without a description counts nothing, and answers no inquiry)
+        for call in lambda: adapter.counters(bytes(92)), lambda: scanner.inquire(OWNER, bytes(24)), lambda: scanner.request(OWNER, b""):
+            self.assertRaises(Refused, call)
+        self.assertEqual(adapter.inquire(OWNER, bytes(24)).verdict, Verdict.BAD_FRAME)
+
+    def test_an_application_answers_at_once(self):
+        plant, adapter, scanner = self.plant()
+        adapter.watch = lambda answer: answer.asked and adapter.respond(answer.asked, 0, b"\x2a")
+        scanner.explicit(adapter.node, 8, self.GET_OWN)
+        plant.run_until(95)
+        self.assertEqual(scanner.answers[-1].answer.reply, ExplicitReply(8, 0, b"", b"\x2a"))
+        self.assertEqual(fault_words.reply_words(scanner.answers[-1].answer.reply),
+                         "explicit request 8 is answered: general status 0x00 (success), additional status -")
+
+    def test_an_answer_knows_its_life(self):
+        """Each life numbers its requests anew, so a number alone is taken for that of the present life."""
+        plant, adapter, scanner = self.plant()
+        sent = []
+        plant.watch = lambda member, datagram: sent.append(datagram.life) if member is adapter else None
+        scanner.explicit(adapter.node, 9, self.GET_OWN)
+        plant.run_until(100)
+        first = adapter.answers[-1].answer.asked
+        self.assertEqual(first, AskedRequest(1, 0x0E, 100, 1, 1, b"", life=1))
+        adapter.restart(Device(self.OWN.replace("adapter 16", "adapter 17")))
+        self.assertEqual((adapter.life, adapter.now_ms, scanner.life), (2, 0, 1))
+        # the stream opens again 1 s after it was cut, and the slot 3 s after its time-out at 260
+        plant.run_until(4_000)
+        scanner.explicit(adapter.node, 10, self.GET_OWN)
+        plant.run_until(4_000)
+        second = adapter.answers[-1].answer.asked
+        self.assertEqual((second.number, second.life), (1, 2))
+        with self.assertRaises(OtherLife) as other:
+            adapter.respond(first, 0, b"\x01")
+        self.assertEqual(str(other.exception), "request 1 is of life 1, and the device is in life 2")
+        adapter.respond(second, 0, b"\x02")
+        plant.run_until(4_000)
+        self.assertEqual(scanner.answers[-1].answer.reply, ExplicitReply(10, 0, b"", b"\x02"))
+        self.assertEqual(sorted(set(sent)), [1, 2])
+        self.assertEqual({it.answer.life for it in adapter.answers}, {1, 2})
+        self.assertEqual(adapter.write(100, bytes(4)), Answer(Verdict.DONE, life=2))
+
+    def test_a_record_answers_a_request_of_its_life(self):
+        with RecordedDevice(self.OWN) as device:
+            asked = device.request(OWNER, self.GET_OWN).asked
+            device.life = 2
+            self.assertRaises(OtherLife, device.respond, asked)
+            device.life = 1
+            device.respond(asked, 0, b"\x07")
+            self.assertEqual(device.trace().split("\n")[8:10], ["answer 1 00 07", "2 done"])
+
+    def test_a_member_that_begins_and_one_that_has_ended(self):
+        plant, adapter, scanner = self.plant()
+        used = Device(ADAPTER.replace("1.10", "1.30"))
+        used.tick(40)
+        late = plant.add(used, "late")
+        plant.run_until(100)
+        self.assertEqual((late.now_ms, late.clock_ms), (45, 100))
+        closed = Device(ADAPTER)
+        closed.close()
+        for device, fault, text in [
+            (adapter.device, ValueError, "<adapter> restarts with another device: this one ends"),
+            (closed, DeviceClosed, "the device is closed"), (Device(SCANNER), ValueError, "192.168.1.20 is not the address of <adapter>"),
+        ]:
+            with self.assertRaises(fault) as caught:
+                adapter.restart(device)
+            self.assertEqual(str(caught.exception), text)
+        self.assertEqual(adapter.life, 1)
+        with self.assertRaises(DeviceClosed):
+            plant.add(closed, "closed")
+        plant.close()
+        for call in lambda: adapter.owner(150), lambda: adapter.write(100, bytes(4)), lambda: scanner.slot(0), lambda: plant.run_until(200):
+            self.assertRaises(DeviceClosed, call)
+
+    def test_what_goes_outside_is_handed_over(self):
+        """The owner of the output is in no plant: its datagrams and those of `send` leave the plant."""
+        plant, out = Plant(), []
+        self.addCleanup(plant.close)
+        adapter = plant.add(Device(ADAPTER))
+        plant.outside = lambda member, datagram: out.append((plant.now_ms, datagram))
+        adapter.request(OWNER, OPEN)
+        adapter.send("192.168.1.99", b"abc")
+        plant.run_until(9)
+        data = Datagram(OWNER, (OWNER,), INPUT_DATA)
+        self.assertEqual(out, [(0, Datagram("192.168.1.99", ("192.168.1.99",), b"abc")), (0, data)])
+        adapter.unplug()
+        plant.run_until(15)
+        self.assertEqual(len(out), 2)
+
+    def test_a_pause_may_be_longer_than_a_tick(self):
+        plant, adapter, _ = self.plant()
+        adapter.pause(150_000)
+        plant.run_until(200_000)
+        self.assertEqual((adapter.now_ms, adapter.clock_ms), (200_000, 200_000))
+        adapter.pause(70_000)
+        plant.at(260_000, lambda: adapter.write(100, bytes(4)))
+        plant.run_until(260_000)
+        self.assertEqual(adapter.now_ms, 260_000)
+
+
+class Sentences(unittest.TestCase):
+    """The sentences of faults are those of the crates, which a station prints."""
+
+    def source(self, name):
+        return (TOP / "crates" / name).read_text()
+
+    def test_refusals_have_the_sentences_of_the_station(self):
+        for name, head, last, texts in [
+            ("cip_events/src/event.rt", "pub enum StepFault", "NotAllowedNow,", [it.sentence for it in map(Status, range(1, 8))]),
+            ("cip_events/src/profile_fault.rt", "pub enum ProfileFault", "Objects,", [it.sentence for it in ProfileFault]),
+        ]:
+            text = self.source(name)
+            text = text[text.index(head):]
+            self.assertEqual(re.findall(r'#\[error\("(.*)"\)\]', text[: text.index(last)]), texts)
+
+    def test_statuses_have_the_names_of_the_station(self):
+        words = self.source("trace_words/src/status_words/statuses.rt") + self.source("trace_words/src/status_words.rt")
+        rows = [(int(number, 16), name) for number, name in re.findall(r'(0x[0-9A-F]+) => "(.*)",', words)]
+        named = [*fault_words.GENERAL.items(), *fault_words.EXTENDED.items(), *fault_words.ENCAPSULATION.items()]
+        self.assertEqual(rows, named)
+        explained = words + self.source("trace_explain/src/answers.rt")
+        for text in [*fault_words._MISMATCHES.values(), *fault_words._UNANSWERED.values(), fault_words._UNNAMED, "refused by the target: "]:
+            self.assertIn(f'"{text}"', explained)
+
+    def test_a_refusal_is_told_whole(self):
+        for call, text in [
+            (lambda device: device.write(100, b"123"), "not the point's length"), (lambda device: device.write(7, b""), "no such point"),
+            (lambda device: device.tick(60_001), "a tick of more than 60000 ms"), (lambda device: device.start(0), "not allowed now"),
+            (lambda device: device.slot(0), "no such slot"), (lambda device: device.respond(1), "not allowed now"),
+        ]:
+            with Device(ADAPTER) as device, self.assertRaises(Refused) as refused:
+                call(device)
+            self.assertEqual(str(refused.exception), text)
+        with self.assertRaises(BadProfile) as bad:
+            Device(ADAPTER.replace("adapter 16", "adapter 0"))
+        self.assertEqual(str(bad.exception), "bad profile 1: the incarnation is 0")
+        with self.assertRaises(Refused) as refused:
+            inquiry(Identity("1.2.3.4", 1, "a" * 33), bytes(24))
+        self.assertEqual(str(refused.exception), "the name has 33 bytes, and a name has 0 to 32")
+
+    def test_why_a_slot_is_not_opened_and_a_request_not_answered(self):
+        for notice, text in [
+            (RefusalNotice(NoticeKind.REFUSED, 4, 1, 0x0106),
+             "slot 4 is not opened: general status 0x01 (connection failure), extended status 0x0106 (ownership conflict)"),
+            (RefusalNotice(NoticeKind.REFUSED, 0, 8), "slot 0 is not opened: general status 0x08 (service not supported), no extended status"),
+            (RefusalNotice(NoticeKind.REFUSED, 0, 5, 0x0106),
+             "slot 0 is not opened: general status 0x05 (path destination unknown), extended status 0x0106"),
+            (RefusalNotice(NoticeKind.MISMATCH, 1, 1, 0x0999),
+             "slot 1 is not opened: refused by the target: general status 0x01 (connection failure), extended status 0x0999 (another status)"),
+            (RefusalNotice(NoticeKind.REFUSED_ENCAP, 2, 100), "slot 2 is not opened: encapsulation status 0x0064 (invalid session handle)"),
+            (RefusalNotice(NoticeKind.REFUSED_ENCAP, 2, 0x10000), "slot 2 is not opened: encapsulation status 0x00010000 (another status)"),
+            (RefusalNotice(NoticeKind.UNREADABLE, 3), "slot 3 is not opened: no readable reply"),
+            (RefusalNotice(NoticeKind.OTHER_ID, 3), "slot 3 is not opened: another T->O id than the requested one, or one in use"),
+        ]:
+            self.assertEqual(fault_words.refusal_words(notice), text)
+        for notice, text in [
+            (UnansweredNotice(NoticeKind.NO_REPLY_TIMED_OUT, 4), "explicit request 4 is not answered: no reply came within the open time-out"),
+            (UnansweredNotice(NoticeKind.NO_REPLY_LOST, 4), "explicit request 4 is not answered: its stream ended"),
+            (UnansweredNotice(NoticeKind.NO_REPLY_ENCAP, 4, 3), "explicit request 4 is not answered: encapsulation status 0x0003 (incorrect data)"),
+        ]:
+            self.assertEqual(fault_words.unanswered_words(notice), text)
+
+
+class AtSockets(unittest.TestCase):
+    """An adapter at sockets of this host: a peer of the test's own speaks to it, in one thread."""
+
+    NODE = "127.0.77.10"
+    PROFILE = ADAPTER.replace("192.168.1.10 255.255.255.0", f"{NODE} 255.0.0.0")
+
+    def free_ports(self):
+        """A TCP port and a UDP port that are free."""
+        made = [socket.socket(socket.AF_INET, kind) for kind in (socket.SOCK_STREAM, socket.SOCK_DGRAM)]
+        for it in made:
+            it.bind((self.NODE, 0))
+        ports = [it.getsockname()[1] for it in made]
+        for it in made:
+            it.close()
+        return ports
+
+    def setUp(self):
+        self.tcp, self.udp = self.free_ports()
+        self.io = socket.socket(socket.AF_INET, socket.SOCK_DGRAM)
+        self.addCleanup(self.io.close)
+        self.io.bind(("127.0.77.20", 0))
+        self.plant = Plant()
+        self.addCleanup(self.plant.close)
+        self.member = self.plant.add(Device(self.PROFILE), "served")
+        self.sockets = Sockets(self.member, tcp=self.tcp, udp=self.udp, peer_udp=self.io.getsockname()[1])
+        self.addCleanup(self.sockets.close)
+
+    def until(self, holds):
+        """Serves until something holds, at most for half a minute."""
+        end = time.monotonic() + 30
+        while not holds():
+            self.assertLess(time.monotonic(), end)
+            self.sockets.turn(self.plant.now_ms + 20)
+
+    def stream(self):
+        """A stream of the peer."""
+        tcp = socket.create_connection((self.NODE, self.tcp), 30, ("127.0.77.20", 0))
+        self.addCleanup(tcp.close)
+        before = len(self.sockets.peers)
+        self.until(lambda: len(self.sockets.peers) > before)
+        tcp.setblocking(False)
+        return tcp
+
+    def received(self, tcp, size):
+        """The next so many bytes of a stream."""
+        got = bytearray()
+
+        def has_come():
+            try:
+                got.extend(tcp.recv(size - len(got)))
+            except BlockingIOError:
+                pass
+            return len(got) == size
+
+        self.until(has_come)
+        return bytes(got)
+
+    def test_a_peer_opens_drives_and_closes(self):
+        tcp = self.stream()
+        # (a message may come in pieces)
+        tcp.send(REGISTER[:10])
+        self.sockets.turn(self.plant.now_ms + 5)
+        tcp.send(REGISTER[10:])
+        self.assertEqual(self.received(tcp, 28), REGISTERED)
+        head = bytes.fromhex("6f00") + (16 + len(OPEN)).to_bytes(2, "little") + bytes.fromhex("01000000") + bytes(16)
+        items = bytes.fromhex("00000000" "0000" "0200" "00000000" "b200") + len(OPEN).to_bytes(2, "little")
+        tcp.send(head + items + OPEN)
+        self.assertEqual(self.received(tcp, 24 + 16 + len(OPEN_REPLY))[40:], OPEN_REPLY)
+        self.io.sendto(RUN_DATA, (self.NODE, self.udp))
+        self.until(lambda: self.member.deliveries[Delivery.APPLIED] == 1)
+        self.assertEqual(self.member.device.read(150).hex(), "11223344")
+        self.io.setblocking(False)
+        data = []
+
+        def has_come():
+            try:
+                data.append(self.io.recv(2048))
+            except BlockingIOError:
+                pass
+            return bool(data)
+
+        self.until(has_come)
+        # (the first datagram of a connection has number and count 1)
+        self.assertEqual(data[0], INPUT_DATA)
+        tcp.send(UNREGISTER)
+        self.until(lambda: not self.sockets.peers)
+        self.assertEqual(self.member.notices[-1][1], StreamNotice(NoticeKind.STREAM_CLOSED, 0))
+
+    def test_streams_that_end(self):
+        """Its peer closes it; a message states 2,049 bytes; the device is restarted; a seventeenth is closed unread."""
+        first, second = self.stream(), self.stream()
+        first.close()
+        self.until(lambda: len(self.sockets.peers) == 1)
+        second.send(bytes.fromhex("65000108"))
+        self.until(lambda: not self.sockets.peers)
+        self.stream()
+        self.member.restart(Device(self.PROFILE.replace("adapter 16", "adapter 17")))
+        self.assertEqual((self.sockets.peers, self.plant.streams, self.member.life), ([], [], 2))
+        streams = [self.stream() for _ in range(16)]
+        extra = socket.create_connection((self.NODE, self.tcp), 30)
+        self.addCleanup(extra.close)
+        extra.setblocking(False)
+
+        def is_closed():
+            try:
+                return extra.recv(1) == b""
+            except BlockingIOError:
+                return False
+
+        self.until(is_closed)
+        self.assertEqual((len(self.sockets.peers), len(streams)), (16, 16))
+        self.member.cut()
+        self.assertEqual(self.plant.streams, [])
+
+    def test_ports_that_the_host_does_not_give(self):
+        with self.assertRaises(ValueError):
+            Sockets(self.member)
+        with Plant() as plant:
+            self.refuses(plant.add(Device(self.PROFILE)))
+            with self.assertRaises(ValueError):
+                Sockets(plant.add(Device(SCANNER)))
+        # (those of a plant that has none take nothing from another one)
+        self.assertEqual(self.plant.outside, self.sockets._sent)
+
+    def refuses(self, member):
+        """Sockets whose ports the host does not give."""
+        for what, words in [
+            (f"the UDP port {self.udp} of {self.NODE} is in use", dict(tcp=self.udp, udp=self.udp)),
+            (f"the TCP port {self.tcp} of {self.NODE} is in use", dict(tcp=self.tcp, udp=self.udp)),
+            (f"the TCP port {self.tcp} of 192.0.2.1 has an address that is not of this host", dict(address="192.0.2.1", tcp=self.tcp)),
+        ]:
+            with self.assertRaises(PortRefused) as refused:
+                Sockets(member, **words)
+            self.assertEqual(str(refused.exception), what)
+            self.assertEqual(refused.exception.is_other_host, "not of this host" in what)
+            self.assertIsNone(member.plant.outside)
+
+
+class Commands(unittest.TestCase):
+    """python3 -m eip: its status, and what it prints."""
+
+    ADAPTER_FILE, SCANNER_FILE = "examples/station_adapter.profile", "examples/station_scanner.profile"
+
+    def setUp(self):
+        os.chdir(TOP)
+        self.folder = pathlib.Path(self.enterContext(tempfile.TemporaryDirectory()) if hasattr(self, "enterContext") else tempfile.mkdtemp())
+
+    def file(self, name, text):
+        path = self.folder / name
+        path.write_bytes(text.encode() if isinstance(text, str) else text)
+        return str(path)
+
+    def performed(self, *words):
+        """The status of the command, and the lines of its two outputs."""
+        out, err = io.StringIO(), io.StringIO()
+        with contextlib.redirect_stdout(out), contextlib.redirect_stderr(err):
+            status = eip_command.main(words)
+        return status, out.getvalue().splitlines(), err.getvalue().splitlines()
+
+    def test_a_machine_stop_in_virtual_time(self):
+        """The last datagram in front of the pause at 5005 is that of 5000, and the watchdog is 160 ms."""
+        controller = self.file("controller.script", "at 500 mode run\nat 500 write 0 11223344\nat 5005 pause 1000\nat 5001 write 9 00\n")
+        island = self.file("island.script", "at 5005 expect within 320 owner 150 lost\nwhen owner 150 lost do expect output 150 = 00000000\n")
+        report = str(self.folder / "report.xml")
+        status, out, err = self.performed("test", self.SCANNER_FILE, controller, self.ADAPTER_FILE, island, "--ms", "6000", "--report", report)
+        self.assertEqual((status, out), (0, [
+            "station_scanner at 5001 refused 4 no such slot", "station_adapter at 5160 met 1 owner 150 lost after 155",
+            "station_adapter at 5160 met 2 output 150 = 00000000 after 0",
+        ]))
+        self.assertEqual(err, ["eip: station_adapter: its script has passed: 2 lines judge, 0 failed, 0 skipped"])
+        self.assertEqual(pathlib.Path(report).read_text(), '''<?xml version="1.0" encoding="UTF-8"?>
+<testsuites>
+  <testsuite name="station_scanner" tests="0" failures="0" skipped="0">
+  </testsuite>
+  <testsuite name="station_adapter" tests="2" failures="0" skipped="0">
+    <testcase classname="station_adapter" name="1: expect within 320 owner 150 lost" time="0.155"/>
+    <testcase classname="station_adapter" name="2: expect output 150 = 00000000" time="0.000"/>
+  </testsuite>
+</testsuites>
+''')
+
+    def test_a_script_that_has_not_passed_has_the_status_of_a_station(self):
+        status, out, err = self.performed("test", self.ADAPTER_FILE, "examples/scripts/fails.script")
+        self.assertEqual(status, 8)
+        self.assertEqual(out[-1], "station_adapter at 60000 passed 5")
+        self.assertEqual(err[-1], "eip: station_adapter: its script has not passed: 5 lines judge, 2 failed, 1 skipped")
+        self.assertEqual(self.performed("test", self.ADAPTER_FILE, "examples/scripts/holds.script")[0], 0)
+
+    def test_bad_input_has_a_sentence(self):
+        passes = self.file("passes.script", "at 1 pass\n")
+        bad_script, no_text = self.file("bad.script", "\nat x pass\n"), self.file("none.script", b"\xff\n")
+        bad_line, bad_profile = self.file("line.profile", "adapter\n"), self.file("fault.profile", ADAPTER.replace("adapter 16", "adapter 0"))
+        events, silent = self.file("events.profile", ADAPTER + "tick 1\n"), self.file("silent.script", "at 1 write 100 00000000\n")
+        time = "a time is a number of milliseconds up to 4294967295, and behind every it is not 0"
+        nowhere = str(self.folder / "no" / "report.xml")
+        for status, said, words in [
+            (2, "the following arguments are required: test | serve", []),
+            (2, f"{self.ADAPTER_FILE}: a script is missing behind the profile; - is none", ["test", self.ADAPTER_FILE]),
+            (2, "--ms 0 is no such value: the milliseconds are 1 to 4294967295", ["test", self.ADAPTER_FILE, passes, "--ms", "0"]),
+            (2, "--tcp x is no such value: a port is 1 to 65535", ["serve", self.ADAPTER_FILE, "--tcp", "x"]),
+            (2, "--tcp needs a value", ["serve", self.ADAPTER_FILE, "--tcp"]),
+            (2, "--fast no such option", ["serve", self.ADAPTER_FILE, "--fast"]),
+            (3, "no.profile cannot be read", ["test", "no.profile", passes]),
+            (3, "no\0script cannot be read", ["test", self.ADAPTER_FILE, "no\0script"]),
+            (3, "/dev/zero is no regular file", ["serve", "/dev/zero"]),
+            (3, "examples is no regular file", ["test", self.ADAPTER_FILE, "examples"]),
+            (3, f"{bad_script}: line 2: {time}", ["test", self.ADAPTER_FILE, bad_script]),
+            (3, f"{no_text}: it has bytes that are no UTF-8", ["test", self.ADAPTER_FILE, no_text]),
+            (3, f"{bad_line}: bad line 1", ["test", bad_line, passes]),
+            (3, f"{bad_profile}: bad profile 1: the incarnation is 0", ["test", bad_profile, passes]),
+            (3, f"{events} has events behind the profile", ["test", events, passes]),
+            (3, "no script judges: a test has a line with expect, fail or pass", ["test", self.ADAPTER_FILE, silent]),
+            (3, f"{self.ADAPTER_FILE}: two devices have the address 127.0.0.10", ["test", *[self.ADAPTER_FILE, passes] * 2]),
+            (3, f"{self.SCANNER_FILE} is the profile of the other kind of device", ["serve", self.SCANNER_FILE]),
+            (4, "the TCP port 44818 of 192.0.2.1 has an address that is not of this host", ["serve", self.ADAPTER_FILE, "--address", "192.0.2.1"]),
+            (4, "--address localhost is no such value: an IPv4 address is four numbers below 256 with dots between them",
+             ["serve", self.ADAPTER_FILE, "--address", "localhost"]),
+            (6, "the report cannot be written", ["test", self.ADAPTER_FILE, passes, "--report", nowhere]),
+            (6, "the report is not written: another file is there", ["test", self.ADAPTER_FILE, passes, "--report", passes]),
+        ]:
+            before = pathlib.Path(passes).read_text()
+            self.assertEqual(self.performed(*words), (status, [], [f"eip: {said}"]), words)
+            self.assertEqual(pathlib.Path(passes).read_text(), before)
+
+    def test_records_are_traces_and_names_differ(self):
+        self.assertEqual(eip_command.names_of(["a/x.profile", "y", "b/x.profile", "x", "\udcff\n.b"]), ["x", "y", "x-2", "x-3", "__"])
+        folder = self.folder / "records"
+        words = ["test", self.SCANNER_FILE, "-", self.ADAPTER_FILE, self.file("own.script", "at 50 expect owner 150 idle\n"), "--ms", "60"]
+        self.assertEqual(self.performed(*words, "--records", str(folder))[0], 0)
+        self.assertEqual(sorted(it.name for it in folder.iterdir()), ["station_adapter.1.trace", "station_scanner.1.trace"])
+        trace = (folder / "station_adapter.1.trace").read_text()
+        self.assertTrue(trace.startswith(pathlib.Path(self.ADAPTER_FILE).read_text()))
+        # (the scanner is idle, and sends at 0, 10, .. 60, new data at first and then the same)
+        self.assertEqual([len(re.findall(rf"^[0-9]+ {word}$", trace, re.M)) for word in ("idle", "duplicate")], [1, 6])
+        self.assertEqual(self.performed(*words, "--records", "/dev/null")[::2], (6, ["eip: the record cannot be written"]))
+
+    def test_another_incarnation_leaves_the_rest(self):
+        self.assertEqual(eip_command.with_incarnation("# a\n" + ADAPTER, 99), "# a\n" + ADAPTER.replace("adapter 16", "adapter 99"))
+
+    def test_what_is_served_is_printed_and_a_reset_begins_the_next_life(self):
+        plant, lines = Plant(), []
+        self.addCleanup(plant.close)
+
+        def served(profile):
+            member = plant.add(Device(profile), "served")
+            return member, eip_command.Served(member, profile, types.SimpleNamespace(put=lambda line, output=1: lines.append(line)))
+
+        member, prints = served(AtSockets.PROFILE)
+        member.request(OWNER, OPEN)
+        member.datagram(OWNER, RUN_DATA)
+        prints.look()
+        prints.call("write 100 01020304")
+        prints.call("read 150")
+        for line in "tick 5", "write 100", "write x 00", "read", "# no call", "":
+            prints.call(line)
+        self.assertEqual(lines, [
+            "at 0 output 150 00000000", "at 0 note opened 1 4660 305419896 10000001", "at 0 output 150 11223344", "1 done", "2 value 11223344",
+            *(f"eip: no call: {line}" for line in ("tick 5", "write 100", "write x 00", "read")),
+        ])
+        self.assertEqual((member.answers, member.notices), ([], []))
+        # Reset of the Identity object, of type 0, at a described device without an owner
+        lines.clear()
+        described = ADAPTER.replace("adapter 16", "adapter 255").replace("heartbeat", "describe 7 50756d70 44818 100 15 02a1b2c3d4e5 120\nheartbeat")
+        member, _ = served(described)
+        member.request(OWNER, bytes.fromhex("05022001240100"))
+        plant.run_until(3)
+        self.assertEqual(lines, ["at 0 output 150 00000000", "at 0 note reset 0", "at 0 life 2, incarnation 1"])
+        self.assertEqual((member.life, member.device.incarnation, member.now_ms), (2, 1, 3))
+
+
 class Documents(unittest.TestCase):
     def test_every_public_name_is_typed_and_documented(self):
-        for module in eip, plant, trace_lines:
+        for module in eip, eip_command, fault_words, plant, plant_script, plant_sockets, trace_lines:
             for name, it in vars(module).items():
                 if name.startswith("_") or getattr(it, "__module__", None) != module.__name__ or not callable(it):
                     continue

@@ -12,8 +12,8 @@ from __future__ import annotations
 from typing import Callable, Optional, TypeVar, Union
 
 from eip import (
-    Address, Answer, AnswerKept, ConnectionNotice, Datagram, Delivery, Device, Frame, Item, Notice, NoticeKind, RefusalNotice, Refused,
-    Reply, ResetNotice, SlotNotice, Status, StreamNotice, UnansweredNotice, Verdict, node_number, node_text,
+    Address, Answer, AnswerKept, AskedRequest, ConnectionNotice, Datagram, Delivery, Device, Frame, Item, Notice, NoticeKind, RefusalNotice,
+    Refused, Reply, ResetNotice, SlotNotice, Status, StreamNotice, UnansweredNotice, Verdict, node_number, node_text,
 )  # fmt: skip
 
 Outcome = Union[Answer, Delivery, bytes, Refused]
@@ -213,7 +213,8 @@ class RecordedDevice(Device):
         event = f"explicit {_node(target)} {number} {hex_of(data)}"
         return self._recorded(event, lambda: super(RecordedDevice, self).explicit(target, number, data))
 
-    def respond(self, number: int, status: int = 0, data: bytes = b"") -> Answer:
+    def respond(self, request: Union[int, AskedRequest], status: int = 0, data: bytes = b"") -> Answer:
+        number = self._requested(request)
         event = f"answer {number} {status:02x} {hex_of(data)}"
         return self._recorded(event, lambda: super(RecordedDevice, self).respond(number, status, data))
 

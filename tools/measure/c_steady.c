@@ -12,9 +12,14 @@ enum { MOST = 64, ROOM = 1 << 16, TEXT = 8192 };
 #define PEER 0xC0A80114u
 #define TARGET 0xC0A8010Au
 
-static const char adapter_profile[] = "adapter 16 192.168.1.10 255.255.255.0 1 12 7 2 3\noutput 150 4 zero zero\n"
-                                      "input 100 4\ninput 101 4\ninput 102 4\ninput 103 4\ninput 104 4\ninput 105 4\n"
-                                      "input 106 4\ninput 107 4\nconfig 151 0\nheartbeat 152 153\n";
+#define ADAPTER(outputs) "adapter 16 192.168.1.10 255.255.255.0 1 12 7 2 3\n" outputs \
+                         "input 100 4\ninput 101 4\ninput 102 4\ninput 103 4\ninput 104 4\ninput 105 4\n" \
+                         "input 106 4\ninput 107 4\nconfig 151 0\nheartbeat 152 153\n"
+
+static const char adapter_profile[] = ADAPTER("output 150 4 zero zero\n");
+static const char of_eight_outputs[] =
+    ADAPTER("output 160 4 zero hold\noutput 161 4 zero hold\noutput 162 4 zero hold\noutput 163 4 zero hold\n"
+            "output 164 4 zero hold\noutput 165 4 zero hold\noutput 166 4 zero hold\noutput 167 4 zero hold\n");
 
 /* A Forward_Open of an exclusive owner of output 150 for input 100, O->T at 10 s with the longest time-out, T->O at 10 ms. */
 static const uint8_t own[50] = {
@@ -163,20 +168,52 @@ static void deliver(uint32_t peer, const uint8_t *bytes, size_t len)
     need(eip_datagram(&device, peer, bytes, len, &delivery) == EIP_DONE && delivery == EIP_APPLIED, "a datagram is not applied");
 }
 
+/* A datagram of an owner, in run mode, with four bytes of data, and without an id and numbers. */
+static const uint8_t owner_data[28] = {2, 0, 2, 0x80, 8, 0, [14] = 0xB1, 0, 10, 0, 0, 0, 1, 0, 0, 0, 9, 8, 7, 6};
+
+static void deliver_numbered(uint32_t peer, uint8_t *bytes, uint32_t number)
+{
+    put(bytes + 10, number);
+    bytes[18] = bytes[10];
+    bytes[19] = bytes[11];
+    deliver(peer, bytes, sizeof owner_data);
+}
+
 /* Datagrams of an owner, the last of so many connections. */
 static void deliveries(uint32_t connections, uint32_t count)
 {
-    uint8_t bytes[28] = {2, 0, 2, 0x80, 8, 0, [14] = 0xB1, 0, 10, 0, 0, 0, 1, 0, 0, 0, 9, 8, 7, 6};
+    uint8_t bytes[sizeof owner_data];
     uint32_t number;
     fill(connections - 1, 10000, 0);
     request(0, own, sizeof own);
     sum = 0;
+    memcpy(bytes, owner_data, sizeof bytes);
     put(bytes + 6, 0x10000000 + connections);
-    for (number = 0; number < count; number++) {
-        put(bytes + 10, number);
-        bytes[18] = bytes[10];
-        bytes[19] = bytes[11];
-        deliver(PEER, bytes, sizeof bytes);
+    for (number = 0; number < count; number++)
+        deliver_numbered(PEER, bytes, number);
+}
+
+/* Datagrams of the owners of so many outputs, in turn. */
+static void owners(uint32_t outputs, uint32_t count)
+{
+    uint8_t bytes[sizeof own], data[sizeof owner_data];
+    uint32_t place, number = 0;
+    make(of_eight_outputs);
+    for (place = 0; place < outputs; place++) {
+        memcpy(bytes, own, sizeof own);
+        bytes[12] = bytes[16] = (uint8_t)(place + 2);
+        bytes[47] = (uint8_t)(160 + place);
+        request(place, bytes, sizeof bytes);
+    }
+    sum = 0;
+    memcpy(data, owner_data, sizeof data);
+    for (place = 0; count--; place++) {
+        if (place >= outputs) {
+            place = 0;
+            number++;
+        }
+        put(data + 6, 0x10000001 + place);
+        deliver_numbered(PEER + place, data, number);
     }
 }
 
@@ -216,6 +253,23 @@ static void writes(uint32_t last, uint32_t count)
         take(eip_write(&device, 100, new_value, sizeof new_value, answer, ROOM, &size));
 }
 
+/* Writes of the inputs of so many cyclic producers, up to eight inputs, in turn. */
+static void inputs(uint32_t producers, uint32_t count)
+{
+    uint8_t bytes[sizeof own];
+    uint32_t place, of = producers < 8 ? producers : 8;
+    make(adapter_profile);
+    for (place = 0; place < producers; place++) {
+        opening(bytes, place, 10000000);
+        bytes[49] = (uint8_t)(100 + place % 8);
+        request(place, bytes, sizeof bytes);
+    }
+    tick(1);
+    sum = 0;
+    for (place = 0; count--; place++)
+        take(eip_write(&device, 100 + place % of, new_value, sizeof new_value, answer, ROOM, &size));
+}
+
 /* The last connection is opened, and times out in the fourth of five ticks. */
 static void time_outs(uint32_t count)
 {
@@ -244,7 +298,30 @@ static void openings(uint32_t count)
     }
 }
 
+/* A multicast connection and so many listeners are opened, and drop with it as it is closed. There are 64 connections. */
+static void listeners(uint32_t number, uint32_t count)
+{
+    uint8_t bytes[MOST][sizeof own], closing[sizeof close_request];
+    uint32_t place, first = MOST - 1 - number;
+    fill(first, 10000, 0);
+    for (place = first; place < MOST; place++) {
+        opening(bytes[place], place, 10000);
+        bytes[place][39] = 0x28;
+        bytes[place][47] = place > first ? 0x99 : 0x98;
+    }
+    memcpy(closing, close_request, sizeof closing);
+    closing[8] = (uint8_t)(first + 2);
+    while (count--) {
+        for (place = first; place < MOST; place++)
+            request(place, bytes[place], sizeof bytes[place]);
+        request(first, closing, sizeof closing);
+    }
+}
+
 /* A SCANNER */
+
+/* Both intervals of a target's replies, in microseconds. */
+static uint32_t o_t_interval = 10000, t_o_interval = 10000;
 
 static void frame(const uint8_t *bytes, size_t len)
 {
@@ -262,6 +339,8 @@ static void start(uint32_t slot, uint32_t number, uint32_t connection)
     put(bytes + 48, 0x20000000 + connection);
     bytes[52] = (uint8_t)connection;
     bytes[53] = (uint8_t)(connection >> 8);
+    put(bytes + 60, o_t_interval);
+    put(bytes + 64, t_o_interval);
     frame(bytes, sizeof bytes);
 }
 
@@ -276,15 +355,18 @@ static void scanner(uint32_t slots)
     make(text);
 }
 
-/* A scanner with so many slots, each of which is established. */
-static void established(uint32_t slots)
+/* A scanner with so many slots, each of which is established, behind each of which so many milliseconds pass. */
+static void established(uint32_t slots, uint32_t pause)
 {
     uint32_t slot;
     scanner(slots);
     take(eip_stream(&device, 0, TARGET, answer, ROOM, &size));
     frame(registered, sizeof registered);
-    for (slot = 0; slot < slots; slot++)
+    for (slot = 0; slot < slots; slot++) {
         start(slot, slot + 1, slot + 1);
+        if (pause)
+            tick(pause);
+    }
     sum = 0;
 }
 
@@ -333,6 +415,16 @@ static void waiting(uint32_t slots, uint32_t count)
         tick(0);
 }
 
+/* Ticks in which all slots are due, the last one first. */
+static void reversed(uint32_t slots, uint32_t count)
+{
+    o_t_interval = 100000;
+    t_o_interval = 10000000;
+    established(slots, 99);
+    while (count--)
+        tick(100);
+}
+
 static bool at_scanner(const char *work, uint32_t slots, uint32_t count)
 {
     bool is_of_last = !strcmp(work, "slot-restart") || !strcmp(work, "slot-write");
@@ -340,7 +432,11 @@ static bool at_scanner(const char *work, uint32_t slots, uint32_t count)
         waiting(slots, count);
         return true;
     }
-    established(is_of_last ? MOST : slots);
+    if (!strcmp(work, "slot-reversed")) {
+        reversed(slots, count);
+        return true;
+    }
+    established(is_of_last ? MOST : slots, 0);
     if (!strcmp(work, "slot-datagram"))
         slot_deliveries(slots, count);
     else if (!strcmp(work, "slot-production"))
@@ -383,10 +479,16 @@ static bool at_adapter(const char *work, uint32_t connections, uint32_t count)
 {
     if (!strcmp(work, "datagram"))
         deliveries(connections, count);
+    else if (!strcmp(work, "owners"))
+        owners(connections, count);
     else if (!strcmp(work, "groups"))
         groups(connections, count);
     else if (!strcmp(work, "write"))
         writes(connections, count);
+    else if (!strcmp(work, "inputs"))
+        inputs(connections, count);
+    else if (!strcmp(work, "listeners"))
+        listeners(connections, count);
     else if (!strcmp(work, "time-out"))
         time_outs(count);
     else if (!strcmp(work, "opening"))

@@ -2,11 +2,12 @@
 """An adapter of EtherNet/IP class 1 connections, written from the standard alone. It shares no code with the crates.
 
     tools/peers/small_adapter.py --own ADDRESS [--tcp P] [--udp P] [--peer-udp P] [--output 150 --out-len 4] [--input 100 --in-len 4]
-        [--seconds S] [--want N] [--echo]
+        [--seconds S] [--want N] [--echo] [--keep-output]
 
 It serves one output and one input: any peer may register a session and open one connection at a time, exclusive owner
 (the connection path's consumed point is --output) or input only (any other point), point to point. It sends the input
-at the requested interval: a count, or with --echo the output. After --seconds it ends with status 0 if it received and sent
+at the requested interval: a count, or with --echo the output. The output is 0 without an owner; with --keep-output it stays as the
+owner left it, which is a bug on purpose. After --seconds it ends with status 0 if it received and sent
 --want datagrams and no message was other than the standard says, else it names the first difference.
 """
 import argparse, select, socket, struct, sys, time
@@ -120,7 +121,8 @@ class Adapter:
         expect("the length of the path of a close", len(body) - 12, 2 * body[10])
         if not self.connection or self.connection["triad"] != triad:
             return bytes([0xCE, 0, 1, 1]) + struct.pack("<H", 0x0107) + triad + b"\0\0"
-        self.connection, self.closed = None, self.closed + 1
+        self.end_connection()
+        self.closed += 1
         return bytes([0xCE, 0, 0, 0]) + triad + b"\0\0"
 
     def receive(self, packet, peer):
@@ -142,13 +144,19 @@ class Adapter:
             run = struct.unpack("<I", packet[20:24])[0] & 1
             self.output = packet[24:] if run else bytes(self.args.out_len)
 
+    def end_connection(self):
+        """The connection has ended: the output that it owned is 0, unless a bug on purpose keeps it."""
+        if self.connection["owner"] and not self.args.keep_output:
+            self.output = bytes(self.args.out_len)
+        self.connection = None
+
     def produce(self):
         connection = self.connection
         if not connection:
             return
         now = time.monotonic()
         if now > connection["fed"] + connection["time_out"]:
-            self.connection = None
+            self.end_connection()
         elif now >= connection["due"]:
             connection["due"] = max(connection["due"] + connection["rpi"], now)
             connection["sequence"] += 1
@@ -205,6 +213,7 @@ def arguments(words=None):
         parser.add_argument(f"--{name}", type=int, default=default)
     parser.add_argument("--seconds", type=float, default=5.0)
     parser.add_argument("--echo", action="store_true")
+    parser.add_argument("--keep-output", action="store_true")
     return parser.parse_args(words)
 
 

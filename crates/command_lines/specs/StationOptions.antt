@@ -73,6 +73,8 @@ option_meanings =
     ∷ (codes "--record", Some (name.Valued setting.Record))
     ∷ (codes "--record-bytes", Some (name.Valued setting.RecordBytes))
     ∷ (codes "--state", Some (name.Valued setting.State))
+    ∷ (codes "--script", Some (name.Valued setting.Script))
+    ∷ (codes "--report", Some (name.Valued setting.Report))
     ∷ (codes "--incarnation", Some (name.Valued setting.Incarnation))
     ∷ (codes "--inactivity", Some (name.Valued setting.Inactivity))
     ∷ (codes "--serial", Some (name.Valued setting.Serial))
@@ -99,7 +101,7 @@ option_of word = meaning option_meanings None word
 
 -- the usual values
 abbrev pub usual : Options
-usual = record { address = None; tcp = None; udp = 2222; peer_udp = 2222; seconds = None; record_from_end = None; record_bytes = 1073741824; state_from_end = None; incarnation = None; inactivity_s = None; serial = None; name_from_end = None; multicast = None; item_ports = true; no_input = false; quiet = false; page = None; page_address = None; page_writes = false; page_host_from_end = None; lose = 0; repeat = 0; reorder = 0; delay_ms = 0; seed = 0 }
+usual = record { address = None; tcp = None; udp = 2222; peer_udp = 2222; seconds = None; record_from_end = None; record_bytes = 1073741824; state_from_end = None; script_from_end = None; report_from_end = None; incarnation = None; inactivity_s = None; serial = None; name_from_end = None; multicast = None; item_ports = true; no_input = false; quiet = false; page = None; page_address = None; page_writes = false; page_host_from_end = None; lose = 0; repeat = 0; reorder = 0; delay_ms = 0; seed = 0 }
 
 -- one that has no value
 abbrev pub with_flag : Options → Flag → Options
@@ -140,6 +142,8 @@ with_number_word left (Some options) = Ok options
 abbrev pub with_file : Options → Setting → ℕ → Options
 with_file options setting.Record left = record options { record_from_end = Some left }
 with_file options setting.State left = record options { state_from_end = Some left }
+with_file options setting.Script left = record options { script_from_end = Some left }
+with_file options setting.Report left = record options { report_from_end = Some left }
 with_file options other left = options
 
 -- a name of 1 to 32 bytes
@@ -190,6 +194,8 @@ with_value options setting.Address word left = with_address_word options setting
 with_value options setting.PageAddress word left = with_address_word options setting.PageAddress left (node_of word)
 with_value options setting.Record word left = Ok (with_file options setting.Record left)
 with_value options setting.State word left = Ok (with_file options setting.State left)
+with_value options setting.Script word left = Ok (with_file options setting.Script left)
+with_value options setting.Report word left = Ok (with_file options setting.Report left)
 with_value options setting.Name word left = with_name options word left
 with_value options setting.PageHost word left = with_host options word left
 with_value options setting.Seconds word left = with_number_word left (with_number options setting.Seconds word)

@@ -47,7 +47,7 @@ station_of scanner (file ∷ rest) = station_with scanner (options_after usual r
 
 -- what one device has, and no plant
 abbrev pub is_for_one : Options → Bool
-is_for_one options = is_some options.address || is_some options.state_from_end || is_some options.incarnation || is_some options.serial || is_some options.name_from_end
+is_for_one options = is_some options.address || is_some options.state_from_end || is_some options.script_from_end || is_some options.incarnation || is_some options.serial || is_some options.name_from_end
 
 -- a plant, with the options of all its devices
 abbrev pub plant_with : Result Options StationMisuse → Result ProgramTask StationMisuse

@@ -42,6 +42,10 @@ pub struct Options {
     pub record_bytes: u64,
     /// The number of words from the file of the station's state on.
     pub state_from_end: Option<usize>,
+    /// The number of words from the file of the station's script on.
+    pub script_from_end: Option<usize>,
+    /// The number of words from the file of the report on.
+    pub report_from_end: Option<usize>,
     /// The incarnation of this start.
     pub incarnation: Option<u8>,
     /// The seconds for which an adapter's stream may be silent; 0: without end. If it is left out: those of the profile's
@@ -91,6 +95,8 @@ pub enum Setting {
     Record,
     RecordBytes,
     State,
+    Script,
+    Report,
     Incarnation,
     Inactivity,
     Serial,
@@ -160,7 +166,7 @@ pub enum StationMisuse {
     #[error("is no IPv4 address: that is four numbers below 256 with dots between them")]
     BadAddress(usize),
     /// An option of a plant is for one device.
-    #[error("--address, --state, --incarnation, --serial and --name are for one device, and a plant has several")]
+    #[error("--address, --state, --script, --incarnation, --serial and --name are for one device, and a plant has several")]
     OneDevice,
 }
 
@@ -177,6 +183,8 @@ fn usual() -> Options
         record_from_end: None,
         record_bytes: RECORD_BYTES,
         state_from_end: None,
+        script_from_end: None,
+        report_from_end: None,
         incarnation: None,
         inactivity_s: None,
         serial: None,
@@ -211,6 +219,8 @@ pub fn option_of(word: &str) -> Option<OptionName>
         "--record" => Some(OptionName::Valued(Setting::Record)),
         "--record-bytes" => Some(OptionName::Valued(Setting::RecordBytes)),
         "--state" => Some(OptionName::Valued(Setting::State)),
+        "--script" => Some(OptionName::Valued(Setting::Script)),
+        "--report" => Some(OptionName::Valued(Setting::Report)),
         "--incarnation" => Some(OptionName::Valued(Setting::Incarnation)),
         "--inactivity" => Some(OptionName::Valued(Setting::Inactivity)),
         "--serial" => Some(OptionName::Valued(Setting::Serial)),
@@ -329,7 +339,9 @@ fn with_value(
             Some(address) => Ok(with_address(options, setting, address)),
             None => Err(StationMisuse::BadAddress(left)),
         },
-        Setting::Record | Setting::State => Ok(with_file(options, setting, left)),
+        Setting::Record | Setting::State | Setting::Script | Setting::Report => Ok(with_file(
+            options, setting, left,
+        )),
         Setting::Name => with_name(options, word, left),
         Setting::PageHost => with_host(options, word, left),
         Setting::Tcp | Setting::Udp | Setting::PeerUdp | Setting::Page => match port_of(word) {
@@ -381,6 +393,14 @@ fn with_file(options: Options, setting: Setting, left: usize) -> Options
         },
         Setting::State => Options {
             state_from_end: Some(left),
+            ..options
+        },
+        Setting::Script => Options {
+            script_from_end: Some(left),
+            ..options
+        },
+        Setting::Report => Options {
+            report_from_end: Some(left),
             ..options
         },
         _ => options,

@@ -161,12 +161,13 @@ fn plant_of<S: AsStr>(words: &[S]) -> Result<ProgramTask, StationMisuse>
     }
 }
 
-/// Whether options say what one device has: its address, state, incarnation, serial number or name.
+/// Whether options say what one device has: its address, state, script, incarnation, serial number or name.
 fn is_for_one(options: &Options) -> bool
     ensures { result ≡ is_for_one options.now }
 {
     options.address.is_some()
         || options.state_from_end.is_some()
+        || options.script_from_end.is_some()
         || options.incarnation.is_some()
         || options.serial.is_some()
         || options.name_from_end.is_some()

@@ -15,6 +15,8 @@ use Rattle.station_setup.specs.Opening.Places.{no_place}
 use Rattle.station_setup.specs.declared.opening.places.SocketPlace.{SocketPlace}
 use Rattle.station_setup.specs.declared.opening.profiles.UnusableProfile.{UnusableProfile}
 use Rattle.station_setup.specs.declared.opening.profiles.UnusableProfile.TheVariants as profile
+use Rattle.station_setup.specs.declared.reports.ReportFault.{ReportFault}
+use Rattle.station_setup.specs.declared.reports.ReportFault.TheVariants as report
 use Rattle.trace_commands.specs.declared.fault.TracesFault.TheVariants as traces
 use Rattle.trace_text.specs.declared.trace.TraceFault.{TraceFault}
 use Rattle.trace_text.specs.declared.trace.TraceFault.TheVariants as trace
@@ -34,8 +36,8 @@ use Rattle.eip_station.specs.declared.failure.Subject.{Subject}
 use Rattle.eip_station.specs.declared.failure.Subject.TheVariants as subject
 
 -- 1 after an early end, where the output takes nothing or no device answers, 2 after a wrong word, 3 after a bad profile or state, 4 after an
--- address that is none, 5 where a socket cannot be made, 6 where the record or the state cannot be written, 7 where there is
--- no memory
+-- address that is none, 5 where a socket cannot be made, 6 where the record, the state or the report cannot be written, 7 where
+-- there is no memory, 8 where a script has not passed
 abbrev pub status_of : Failure → ℕ
 status_of (failure.Early end) = 1
 status_of failure.Output = 1
@@ -54,12 +56,15 @@ status_of failure.WrongKind = 3
 status_of failure.Unserved = 3
 status_of (failure.UnreadState why) = 3
 status_of failure.State = 3
+status_of failure.Script = 3
 status_of (failure.Socket socket cause.NoAddress place) = 4
 status_of (failure.Socket socket _ place) = 5
 status_of failure.Token = 5
 status_of failure.Record = 6
 status_of failure.RecordEnd = 6
 status_of failure.NoState = 6
+status_of (failure.Report why) = 6
+status_of failure.Unpassed = 8
 status_of failure.Thread = 7
 status_of failure.OutOfMemory = 7
 
@@ -71,6 +76,8 @@ is_reported failure.Unheard = true
 is_reported (failure.UnreadState why) = true
 is_reported failure.State = true
 is_reported failure.NoState = true
+is_reported failure.Script = true
+is_reported failure.Unpassed = true
 is_reported failure.RecordEnd = true
 is_reported (failure.Plant why) = is_plant_reported why
 is_reported other = false
@@ -120,6 +127,11 @@ state_failure (state.Unread why) = failure.UnreadState why
 state_failure state.NoState = failure.State
 state_failure state.Unwritten = failure.NoState
 state_failure state.OutOfMemory = failure.OutOfMemory
+
+-- where a report is not written
+abbrev pub report_failure : ReportFault → Failure
+report_failure report.OutOfMemory = failure.OutOfMemory
+report_failure other = failure.Report other
 
 -- a record cannot be begun
 abbrev pub record_failure : RecordFault → Failure

@@ -12,7 +12,7 @@ use settle_command::SettleFault;
 use station::EarlyEnd;
 use station_port::{SocketCause, StationFault, StationSocket};
 use station_record::{RecordFault, StateFault};
-use station_setup::SocketPlace;
+use station_setup::{ReportFault, SocketPlace};
 use std::alloc::{AllocError, AllocFailed};
 use thiserror::Error;
 use trace_commands::TracesFault;
@@ -77,6 +77,15 @@ pub enum Failure {
     /// The record cannot be made.
     #[error("cannot be written")]
     Record,
+    /// The file of the script is not read, or is none, of which a line has told.
+    #[error("is no script")]
+    Script,
+    /// The report on the script is not written, for this reason.
+    #[error("{0}")]
+    Report(ReportFault),
+    /// The script has not passed, of which lines have told.
+    #[error("the script has not passed")]
+    Unpassed,
     /// The record has ended before its station.
     #[error("the record cannot take more and has ended")]
     RecordEnd,
@@ -122,12 +131,15 @@ pub fn status_of(failure: Failure) -> u8
         Failure::Unserved => 3,
         Failure::UnreadState(_) => 3,
         Failure::State => 3,
+        Failure::Script => 3,
         Failure::Socket(_, SocketCause::NoAddress, _) => 4,
         Failure::Socket(_, _, _) => 5,
         Failure::Token => 5,
         Failure::Record => 6,
         Failure::RecordEnd => 6,
         Failure::NoState => 6,
+        Failure::Report(_) => 6,
+        Failure::Unpassed => 8,
         Failure::Thread => 7,
         Failure::OutOfMemory => 7,
     }
@@ -220,6 +232,19 @@ impl From<RecordFault> for Failure {
     }
 }
 
+impl From<ReportFault> for Failure {
+    ghost use Rattle.eip_station.specs.Failures.{report_failure};
+
+    ghost from_gives = { λ fault given. given ≡ report_failure fault };
+
+    fn from(fault: ReportFault) -> Failure {
+        match fault {
+            ReportFault::OutOfMemory => Failure::OutOfMemory,
+            other => Failure::Report(other),
+        }
+    }
+}
+
 impl From<TracesFault> for Failure {
     ghost use Rattle.eip_station.specs.declared.failure.Failure.TheVariants as failure;
 
@@ -297,6 +322,8 @@ pub fn is_reported(failure: Failure) -> bool
         Failure::UnreadState(_) => true,
         Failure::State => true,
         Failure::NoState => true,
+        Failure::Script => true,
+        Failure::Unpassed => true,
         Failure::RecordEnd => true,
         _ => false,
     }

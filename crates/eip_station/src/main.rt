@@ -7,6 +7,7 @@ mod paging;
 mod profiles;
 mod program;
 mod rules;
+mod scripting;
 mod stationing;
 mod texts;
 

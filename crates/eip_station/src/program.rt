@@ -126,6 +126,10 @@ where
             Some(left) => Some(word_from_end(words, left)),
             None => None,
         },
+        report: match options.report_from_end {
+            Some(left) => Some(word_from_end(words, left)),
+            None => None,
+        },
         page: match options.page {
             Some(_) => Some(&shared.page),
             None => None,

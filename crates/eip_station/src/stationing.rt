@@ -5,12 +5,16 @@ use crate::paging::{HostNet, PageSubject, begin_page, page_host};
 use crate::profiles::profile_of;
 use crate::program::{Surroundings, line_of};
 use crate::rules::{has_next_life, left_ms, life_end, reads_lines, run_end};
+use crate::scripting::{judge, script_in};
 use crate::texts::{kind_word, record_name, start_text, state_name};
 use cip_tables::Config;
 use cip_types::OutOfMemory;
 use command_lines::{Options, StationTask, file_of, word_from_end};
 use page_feed::PageFeed;
-use station::{CountedSteps, DeviceSteps, EarlyEnd, InputSteps, LifeEnd, SuppliedSteps};
+use station::{
+    CountedSteps, DeviceSteps, EarlyEnd, InputSteps, LifeEnd, ScriptLine, ScriptState,
+    SuppliedSteps,
+};
 use station_lines::{CallLines, LineSink, NoLines};
 use station_port::{StationPlace, StationPort};
 use station_record::{Recorder, Start, StateFault, forget_record, name_of, stem_of};
@@ -19,9 +23,10 @@ use station_rim::{
     drain_record, report_line,
 };
 use station_setup::{
-    HostCounters, MOST_LIVES, OpenStation, OpenedPort, StationOutputs, described, host_of,
-    incarnation_of, is_scanner, names_in, open_life_port, passed_ms, recorder_in, rest_before_life,
-    socket_place, start_in, station_of, with_block, with_incarnation, with_serials,
+    HostCounters, MOST_LIVES, OpenStation, OpenedPort, StationOutputs, begin_report, described,
+    host_of, incarnation_of, is_scanner, names_in, open_life_port, passed_ms, recorder_in,
+    rest_before_life, socket_place, start_in, station_of, with_block, with_incarnation,
+    with_serials,
 };
 use std::fs::File;
 use std::random::RandomSource;
@@ -46,6 +51,8 @@ pub struct Stationed<'a, R> {
     pub options: &'a Options,
     pub rim: &'a Rim,
     pub shared: &'a Surroundings,
+    /// The lines of its script; none, if it has none.
+    pub script: &'a [ScriptLine],
     pub life: u32,
     /// When the life begins, in milliseconds since the station began.
     pub begun_ms: u64,
@@ -61,18 +68,43 @@ pub fn run_task<R>(
 where
     R: AllocGlobal + Files<File = File> + Clock + HostNet + RandomSource + Wait + Copy + Drop,
 {
+    let done = run_scripted(rt, words, task, shared);
+    report_end(rt, words, shared, done)
+}
+
+/// Runs a station to its end, and judges its script. A failure of the station comes first.
+fn run_scripted<R>(
+    rt: R,
+    words: &[String],
+    task: StationTask,
+    shared: &Surroundings,
+) -> Result<(), Failure>
+where
+    R: AllocGlobal + Files<File = File> + Clock + HostNet + RandomSource + Wait + Copy + Drop,
+{
+    let script = script_in(rt, &shared.rim, words, task.options.script_from_end)?;
+    let report = match task.options.report_from_end {
+        Some(left) => Some(word_from_end(words, left)),
+        None => None,
+    };
+    begin_report(&rt, report)?;
     let setting = Stationed {
         rt,
         words,
         options: &task.options,
         rim: &shared.rim,
         shared,
+        script: script.as_slice(),
         life: 1,
         begun_ms: 0,
     };
-    let ran = live_all(&setting, task.scanner);
-    let done = with_record(&setting, ran);
-    report_end(rt, words, shared, done)
+    let mut state = ScriptState::of(rt.alloc(), setting.script)?;
+    let ran = live_all(&setting, task.scanner, &mut state);
+    let judged = judge(&setting, station_name(&setting), state.checks(), report);
+    match with_record(&setting, ran) {
+        Ok(()) => judged,
+        failed => failed,
+    }
 }
 
 /// Reports a failure, and waits a bounded time for the outputs.
@@ -115,7 +147,11 @@ where
 }
 
 /// Runs the station: a life, and behind a reset that a peer has requested the next one.
-fn live_all<R>(setting: &Stationed<'_, R>, scanner: bool) -> Result<(), Failure>
+fn live_all<R>(
+    setting: &Stationed<'_, R>,
+    scanner: bool,
+    state: &mut ScriptState,
+) -> Result<(), Failure>
 where
     R: AllocGlobal + Files<File = File> + Clock + HostNet + RandomSource + Wait + Copy + Drop,
 {
@@ -129,7 +165,7 @@ where
             begun_ms: passed_ms(&setting.rt, origin),
             ..*setting
         };
-        if !has_next_life(begin(&setting, scanner)?) {
+        if !has_next_life(begin(&setting, scanner, state)?) {
             return Ok(());
         }
         // (what is left of its record is not that of the next life)
@@ -163,7 +199,11 @@ where
 }
 
 /// Reads the profile, begins the state, and lives once.
-fn begin<R>(setting: &Stationed<'_, R>, scanner: bool) -> Result<LifeEnd, Failure>
+fn begin<R>(
+    setting: &Stationed<'_, R>,
+    scanner: bool,
+    script: &mut ScriptState,
+) -> Result<LifeEnd, Failure>
 where
     R: AllocGlobal + Files<File = File> + Clock + HostNet + RandomSource + Wait + Copy + Drop,
 {
@@ -174,7 +214,7 @@ where
     let config = with_incarnation(config, state.incarnation);
     let config = with_serials(config, state.serial, state.serials);
     let config = with_block(config, start.block());
-    let ran = open(setting, config, &start);
+    let ran = open(setting, config, &start, script);
     if ran.is_err() {
         start.discard(&setting.rt);
     }
@@ -227,7 +267,12 @@ where
 }
 
 /// Opens the port of a station, begins its record, and has it live.
-fn open<R>(setting: &Stationed<'_, R>, config: Config, start: &Start) -> Result<LifeEnd, Failure>
+fn open<R>(
+    setting: &Stationed<'_, R>,
+    config: Config,
+    start: &Start,
+    script: &mut ScriptState,
+) -> Result<LifeEnd, Failure>
 where
     R: AllocGlobal + Files<File = File> + Clock + HostNet + RandomSource + Wait + Copy + Drop,
 {
@@ -242,7 +287,7 @@ where
     };
     let kind = kind_word(is_scanner(&config));
     let line = start_line(setting, kind, &opened.place, start.state().incarnation)?;
-    serve(setting, &config, opened, start, line.as_str())
+    serve(setting, &config, opened, start, line.as_str(), script)
 }
 
 /// The name of a station: that of its options, or that of its profile's file.
@@ -298,6 +343,7 @@ fn serve<R>(
     opened: OpenedPort<R>,
     start: &Start,
     line: &str,
+    script: &mut ScriptState,
 ) -> Result<LifeEnd, Failure>
 where
     R: AllocGlobal + Files<File = File> + Clock + HostNet + RandomSource + Wait + Copy + Drop,
@@ -325,9 +371,9 @@ where
     begin_ids(setting, start)?;
     let end = if reads_lines(setting.options) {
         let lines = setting.rim.input.share()?.lines(rt, waker);
-        live(setting, &mut station, lines, host, slots)?
+        live(setting, &mut station, lines, host, slots, script)?
     } else {
-        live(setting, &mut station, NoLines, host, slots)?
+        live(setting, &mut station, NoLines, host, slots, script)?
     };
     let end = life_end(end, station.record_fault())?;
     // (what the state's file still takes could be older than what the next life writes there)
@@ -355,13 +401,14 @@ where
     Ok(())
 }
 
-/// A life of a station, whose device has no script.
+/// A life of a station, which takes its script further.
 fn live<R, O, E, L>(
     setting: &Stationed<'_, R>,
     station: &mut OpenStation<R, O, E>,
     lines: L,
     host: HostCounters<R>,
     slots: u32,
+    script: &mut ScriptState,
 ) -> Result<LifeEnd, Failure>
 where
     R: AllocGlobal + Files<File = File> + Clock + HostNet + Wait + Copy + Drop,
@@ -371,10 +418,14 @@ where
 {
     let alloc = setting.rt.alloc();
     let end_ms = left_ms(setting.options.seconds, setting.begun_ms);
-    let steps = DeviceSteps::unscripted(alloc, InputSteps::new(alloc, lines), end_ms);
+    let typed = InputSteps::new(alloc, lines);
+    let (before, begun_ms) = (script.copy(alloc)?, setting.begun_ms);
+    let steps = DeviceSteps::scripted(alloc, setting.script, before, typed, begun_ms, end_ms);
     let steps = CountedSteps::new(steps, host);
     let mut steps = SuppliedSteps::new(steps, setting.rim.ids.blocks(setting.rt)?);
-    Ok(station.live(&mut steps, slots)?)
+    let lived = station.live(&mut steps, slots);
+    *script = steps.source().steps().state().copy(alloc)?;
+    Ok(lived?)
 }
 
 /// The two outputs of a station, whose lines have these names behind them.

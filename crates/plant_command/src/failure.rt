@@ -6,6 +6,7 @@ ghost use Rattle.plant_command.specs.Statuses.{device_status, is_reported, statu
 use cip_types::OutOfMemory;
 use plant_rim::DeviceFailure;
 use station_port::SocketCause;
+use station_setup::ReportFault;
 use std::alloc::{AllocError, AllocFailed};
 use thiserror::Error;
 use trace_files::FileFault;
@@ -22,6 +23,12 @@ pub enum PlantFailure {
     /// The folder of the records cannot be made.
     #[error("the folder of the records cannot be made")]
     Folder,
+    /// The report on its scripts is not written, for this reason.
+    #[error("{0}")]
+    Report(ReportFault),
+    /// A script has not passed, of which lines have told.
+    #[error("a script has not passed")]
+    Script,
     /// A device has failed, of which a line has told.
     #[error("a device has failed: {0}")]
     Device(DeviceFailure),
@@ -42,6 +49,8 @@ impl PlantFailure {
             PlantFailure::Unread(_) => 3,
             PlantFailure::Bad => 3,
             PlantFailure::Folder => 6,
+            PlantFailure::Report(_) => 6,
+            PlantFailure::Script => 8,
             PlantFailure::Device(failure) => device_status(failure),
             PlantFailure::Clock => 1,
             PlantFailure::OutOfMemory => 7,
@@ -55,6 +64,7 @@ impl PlantFailure {
         match self {
             PlantFailure::Bad => true,
             PlantFailure::Device(_) => true,
+            PlantFailure::Script => true,
             _ => false,
         }
     }
@@ -72,6 +82,19 @@ fn device_status(failure: DeviceFailure) -> u8
         DeviceFailure::Early(_) => 1,
         DeviceFailure::Profile => 3,
         DeviceFailure::OutOfMemory => 7,
+    }
+}
+
+impl From<ReportFault> for PlantFailure {
+    ghost use Rattle.plant_command.specs.Statuses.{report_failure};
+
+    ghost from_gives = { λ fault given. given ≡ report_failure fault };
+
+    fn from(fault: ReportFault) -> PlantFailure {
+        match fault {
+            ReportFault::OutOfMemory => PlantFailure::OutOfMemory,
+            other => PlantFailure::Report(other),
+        }
     }
 }
 

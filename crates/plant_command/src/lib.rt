@@ -6,6 +6,7 @@ mod failure;
 mod lives;
 mod opening;
 mod paths;
+mod reports;
 mod running;
 mod setups;
 

@@ -7,10 +7,12 @@ use crate::endings::{LifeNames, is_stillborn, life_end, next_names};
 use crate::paths::record_path;
 use crate::setups::node_of;
 use cip_tables::Config;
-use cip_types::{Node, OutOfMemory};
+use cip_types::{Items, Node, OutOfMemory};
 use page_feed::PageFeed;
-use plant_rim::{DeviceFailure, DeviceSetup, NameForm, NamedLines, PlantJob, SharedPlant};
-use station::{CountedSteps, DeviceSteps, LifeEnd, ScriptRun};
+use plant_rim::{
+    DeviceFailure, DeviceSetup, NameForm, NamedLines, PlantJob, ScriptOutcome, SharedPlant,
+};
+use station::{CountedSteps, DeviceSteps, LifeEnd, ScriptChecks, ScriptReport, ScriptState};
 use station_lines::LineSink;
 use station_port::StationPlace;
 use station_record::{Recorder, forget_record};
@@ -53,7 +55,7 @@ where
     R: AllocGlobal + Files<File = File> + Net + Clock + Wait + Copy + Drop,
 {
     let mut lives = 0;
-    let ended = live_all(rt, plant, setup, &mut lives);
+    let ended = live_judged(rt, plant, setup, &mut lives);
     let failure = match ended {
         Ok(()) => None,
         Err(failure) => {
@@ -79,8 +81,8 @@ where
     }
 }
 
-/// All lives of a device. Counts those that have begun.
-fn live_all<R>(
+/// All lives of a device, and behind them what came of its script.
+fn live_judged<R>(
     rt: R,
     plant: &SharedPlant,
     setup: &DeviceSetup,
@@ -89,9 +91,60 @@ fn live_all<R>(
 where
     R: AllocGlobal + Files<File = File> + Net + Clock + Wait + Copy + Drop,
 {
+    let mut script = ScriptState::of(rt.alloc(), setup.script.as_slice())?;
+    let ended = live_all(rt, plant, setup, &mut script, lives);
+    judge(rt, plant, setup, script.checks())?;
+    ended
+}
+
+/// Says what came of the script of a device, and keeps it for the report.
+fn judge<R>(
+    rt: R,
+    plant: &SharedPlant,
+    setup: &DeviceSetup,
+    checks: &ScriptChecks,
+) -> Result<(), OutOfMemory>
+where
+    R: AllocGlobal + Wait + Copy + Drop,
+{
+    let alloc = rt.alloc();
+    let report = ScriptReport {
+        name: setup.name.as_str(),
+        script: setup.script.as_slice(),
+        checks,
+    };
+    let counts = report.counts();
+    if counts.cases == 0 {
+        return Ok(());
+    }
+    let (mut text, mut suite) = (Vec::new(alloc), Vec::new(alloc));
+    report.push_bad_lines(alloc, &mut text)?;
+    report.push_summary(alloc, &mut text)?;
+    report.push_suite(alloc, &mut suite)?;
+    plant.err.sink(rt)?.line(text.as_slice());
+    plant.judge(
+        &rt,
+        ScriptOutcome {
+            place: setup.place,
+            suite: Items::from_vec(suite),
+            counts,
+        },
+    )
+}
+
+/// All lives of a device. Counts those that have begun.
+fn live_all<R>(
+    rt: R,
+    plant: &SharedPlant,
+    setup: &DeviceSetup,
+    script: &mut ScriptState,
+    lives: &mut u32,
+) -> Result<(), DeviceFailure>
+where
+    R: AllocGlobal + Files<File = File> + Net + Clock + Wait + Copy + Drop,
+{
     let origin = now(&rt)?;
     forget_lives(&rt, setup)?;
-    let mut run = ScriptRun::new();
     let mut names = LifeNames::new(setup.span.first, setup.ids);
     for life in 1..MOST_LIVES {
         let config = config_of(rt.alloc(), setup, names)?;
@@ -104,7 +157,7 @@ where
             number: life,
             begun_ms,
         };
-        let lived = life.live(rt, opened, &mut run, lives)?;
+        let lived = life.live(rt, opened, script, lives)?;
         match next_names(setup.span, names, lived.end, lived.ids_left) {
             Some(next) => names = next,
             None => return Ok(()),
@@ -195,14 +248,14 @@ impl Life<'_> {
         &self,
         rt: R,
         opened: OpenedPort<R>,
-        run: &mut ScriptRun,
+        script: &mut ScriptState,
         lives: &mut u32,
     ) -> Result<LivedLife, DeviceFailure>
     where
         R: AllocGlobal + Files<File = File> + Net + Clock + Wait + Copy + Drop,
     {
         let record = SharedRecord::new(rt.alloc())?;
-        let ended = self.live_recorded(rt, opened, run, &record, lives);
+        let ended = self.live_recorded(rt, opened, script, &record, lives);
         record.end(&rt);
         self.plant.out.release(&rt);
         ended
@@ -275,7 +328,7 @@ impl Life<'_> {
         &self,
         rt: R,
         opened: OpenedPort<R>,
-        run: &mut ScriptRun,
+        state: &mut ScriptState,
         record: &SharedRecord,
         lives: &mut u32,
     ) -> Result<LivedLife, DeviceFailure>
@@ -297,10 +350,11 @@ impl Life<'_> {
         *lives = self.number;
         let typed = self.setup.typed.share()?.steps(rt, waker);
         let script = self.setup.script.as_slice();
-        let steps = DeviceSteps::scripted(rt.alloc(), script, *run, typed, self.begun_ms);
+        let before = state.copy(rt.alloc())?;
+        let steps = DeviceSteps::scripted(rt.alloc(), script, before, typed, self.begun_ms, None);
         let mut steps = CountedSteps::new(steps, host);
         let lived = station.live(&mut steps, slots);
-        *run = steps.steps().run();
+        *state = steps.steps().state().copy(rt.alloc())?;
         let end = life_end(lived?, station.record_fault())?;
         Ok(LivedLife {
             end,

@@ -17,12 +17,15 @@ use std::sync::Wait;
 use trace_files::{FileFault, read_regular};
 use trace_text::first_line;
 
-/// The words of a plant: its file, its options, the folder of its records if an option names one, and its page if it has one.
+/// The words of a plant: its file, its options, the folder of its records and the file of its report if options name them, and its
+/// page if it has one.
 #[derive(Clone, Copy)]
 pub struct PlantSetting<'a> {
     pub file: &'a str,
     pub options: &'a Options,
     pub folder: Option<&'a str>,
+    /// The file of the report on its scripts, if an option names one.
+    pub report: Option<&'a str>,
     pub page: Option<&'a SharedPage>,
 }
 

@@ -4,12 +4,14 @@ use crate::endings::{ends, is_late, is_over, seconds_of};
 use crate::failure::PlantFailure;
 use crate::opening::{NumberedPlant, PlantSetting, plant_of};
 use crate::paths::path_beside;
+use crate::reports::report_scripts;
 use crate::setups::{Member, MemberSetup, device_names, setups_of};
 use plant_rim::{PlantFile, PlantPhase, PlantView, SharedPlant, TypedLine, next_phase, read_typed};
 use station::StationStep;
 use station_lines::NextLine;
 use station_rim::{Rim, SharedDevices, drain_lines, report_line};
-use station_setup::end_of;
+use station_setup::{begin_report, end_of};
+use std::fs::File;
 use std::rt::{Clock, Files};
 use std::sync::Wait;
 use std::time::{Duration, Instant};
@@ -30,7 +32,7 @@ pub fn run_plant<R>(
     setting: &PlantSetting<'_>,
 ) -> Result<(), PlantFailure>
 where
-    R: AllocGlobal + Files + Clock + Wait + Copy + Drop,
+    R: AllocGlobal + Files<File = File> + Clock + Wait + Copy + Drop,
 {
     let ran = run_file(rt, rim, plant, setting);
     drain_lines(&rt, rim);
@@ -45,7 +47,7 @@ fn run_file<R>(
     setting: &PlantSetting<'_>,
 ) -> Result<(), PlantFailure>
 where
-    R: AllocGlobal + Files + Clock + Wait + Copy + Drop,
+    R: AllocGlobal + Files<File = File> + Clock + Wait + Copy + Drop,
 {
     let NumberedPlant { plant: said, lines } = plant_of(rt, rim, setting.file)?;
     let seconds = seconds_of(setting.options.seconds, said.seconds);
@@ -57,6 +59,7 @@ where
     let setups = setups_of(rt, rim, setting, said, lines.as_slice(), folder)?;
     let names = device_names(rt.alloc(), setups.as_slice())?;
     let devices = SharedDevices::new(rt.alloc(), names)?;
+    begin_report(&rt, setting.report)?;
     let members = begin_all(rt, plant, setups, &devices)?;
     let mut console = Console {
         rt,
@@ -71,9 +74,10 @@ where
         has_ended: false,
     };
     console.run()?;
+    let judged = report_scripts(rt, plant, setting.report, members.len());
     match plant.state(&rt).failure {
         Some(failure) => Err(PlantFailure::Device(failure)),
-        None => Ok(()),
+        None => judged,
     }
 }
 

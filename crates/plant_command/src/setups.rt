@@ -175,6 +175,7 @@ where
         None => None,
     };
     let setup = DeviceSetup {
+        place: rank.place,
         name: format!(in alloc; "{name}")?,
         config: with_node(config, address),
         names,

@@ -1,6 +1,9 @@
+pub mod Acts
 pub mod Calls
 pub mod Lines
+pub mod Made
 pub mod Plants
 pub mod Reading
+pub mod Scripts
 pub mod Sentences
 pub mod Texts

@@ -7,7 +7,8 @@ ghost use Rattle.plant_rim.specs.declared.jobs.PlantJob.TheVariants.{Serve, Writ
 use crate::counts::PlantCounts;
 use crate::failure::DeviceFailure;
 use crate::jobs::{DeviceSetup, PlantJob};
-use cip_types::OutOfMemory;
+use cip_types::{Items, OutOfMemory};
+use script_checks::ReportCounts;
 use station_rim::SharedRecord;
 use std::alloc::Global;
 
@@ -71,11 +72,22 @@ fn record_failed(has_failed: bool) -> Option<DeviceFailure>
     }
 }
 
-/// The jobs that wait, the oldest first, and how it is.
+/// What came of the script of a device.
+#[derive(Drop)]
+pub struct ScriptOutcome {
+    /// The number of the device in the file of its plant, from 0.
+    pub place: usize,
+    /// Its suite of the report.
+    pub suite: Items<u8>,
+    pub counts: ReportCounts,
+}
+
+/// The jobs that wait, the oldest first, how it is, and what came of the scripts of the devices that live no more.
 #[derive(Drop)]
 pub(crate) struct Board {
     waiting: Vec<PlantJob>,
     pub(crate) state: PlantState,
+    scripts: Vec<ScriptOutcome>,
 }
 
 impl Board {
@@ -84,6 +96,7 @@ impl Board {
         Board {
             waiting: Vec::new(alloc),
             state: PlantState::none(),
+            scripts: Vec::new(alloc),
         }
     }
 
@@ -115,6 +128,21 @@ impl Board {
         self.waiting.push(PlantJob::Write(entries))?;
         self.state.counts.begin_record();
         Ok(())
+    }
+
+    /// Keeps what came of a script. OutOfMemory is the only fault, and then nothing changes.
+    pub(crate) fn judge(&mut self, outcome: ScriptOutcome) -> Result<(), OutOfMemory> {
+        self.scripts.push(outcome)?;
+        Ok(())
+    }
+
+    /// Takes what came of the script of the device of this number, if it is there.
+    pub(crate) fn take_script(&mut self, place: usize) -> Option<ScriptOutcome> {
+        let at = self
+            .scripts
+            .iter()
+            .position(|outcome| outcome.place == place)?;
+        Some(self.scripts.remove(at))
     }
 
     /// Takes the job that waits longest.

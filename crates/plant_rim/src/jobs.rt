@@ -1,6 +1,6 @@
 //! The jobs of a plant's threads: each thread takes one after another.
 
-use crate::board::{Board, PlantState};
+use crate::board::{Board, PlantState, ScriptOutcome};
 use crate::failure::DeviceFailure;
 use crate::incarnations::IncarnationSpan;
 use crate::typed_steps::SharedSteps;
@@ -17,6 +17,8 @@ use trace_words::Names;
 /// A device that is to live.
 #[derive(Drop)]
 pub struct DeviceSetup {
+    /// The number of the device in the file of its plant, from 0.
+    pub place: usize,
     pub name: String,
     pub config: Config,
     /// The names of its points.
@@ -126,6 +128,16 @@ impl SharedPlant {
     /// A record is written to its end, or has failed.
     pub fn leave_record<R: Wait>(&self, rt: &R, has_failed: bool) {
         self.shared.board.lock(rt).state.leave_record(has_failed);
+    }
+
+    /// Keeps what came of a script. OutOfMemory is the only fault.
+    pub fn judge<R: Wait>(&self, rt: &R, outcome: ScriptOutcome) -> Result<(), OutOfMemory> {
+        self.shared.board.lock(rt).judge(outcome)
+    }
+
+    /// Takes what came of the script of the device of this number, if it lives no more.
+    pub fn take_script<R: Wait>(&self, rt: &R, place: usize) -> Option<ScriptOutcome> {
+        self.shared.board.lock(rt).take_script(place)
     }
 
     /// How it is.

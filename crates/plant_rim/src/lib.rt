@@ -16,12 +16,13 @@ mod step_queue;
 mod typed;
 mod typed_steps;
 
-pub use board::PlantState;
+pub use board::{PlantState, ScriptOutcome};
 pub use counts::PlantCounts;
 pub use failure::DeviceFailure;
 pub use file::{
     FaultOptions, MOST_DEVICES, MOST_SCRIPT_LINES, PlantDevice, PlantFault, PlantFile,
-    PlantLineFault, PlantWord, push_fault, read_plant, read_plant_call, read_typed_call,
+    PlantLineFault, PlantWord, push_fault, read_plant, read_plant_call, read_script_file,
+    read_typed_call,
 };
 pub use incarnations::{IncarnationSpan, MOST_SPANS, spans_are_apart};
 pub use jobs::{DeviceSetup, PlantJob, SharedPlant};

@@ -1,5 +1,7 @@
+mod CheckSamples
 mod Exactness
 mod Living
+mod LookWaits
 mod Noting
 mod SessionEnds
 mod Turning

@@ -4,7 +4,6 @@ use Rattle.cip_events.specs.Clock.{longest_tick}
 use Rattle.cip_events.specs.declared.event.Event.{Event}
 use Rattle.cip_events.specs.declared.event.Event.TheVariants as event
 use Rattle.cip_tables.specs.declared.table.DeviceTable.{DeviceTable}
-use Rattle.cip_tables.specs.States.{totals_of}
 use Rattle.station.specs.declared.step.LifeEnd.{LifeEnd}
 use Rattle.station.specs.declared.step.StationStep.{StationStep}
 use Rattle.station.specs.declared.serving.Station.{Station}
@@ -68,52 +67,52 @@ if_ok (Ok x) Q R then q = then x q
 if_ok (Err fault) Q R then q = tt
 
 -- a step that is an end
-pub took_last : {S P C D W O E : Type 0} (contents : W → Option (List ℕ)) (s t : Bool) (coming : C → List ℕ) (tape : P → Tape) (failed : P → ℕ) (table : D → DeviceTable) (gives : S → ℕ → ℕ → StationStep → S → Type 0) (taken : StationStep) (end : LifeEnd) (ms left : ℕ) (from : S) (old : Station P C D W O E) (to : S) (new : Station P C D W O E)
-    → ms ≡ old.observer.now_ms → left ≡ (totals_of (table old.device)).ids_left → gives from ms left taken to → Some end ≡ end_of taken → Does contents s t coming tape failed table (tasks_of (number_of old) taken) old new
+pub took_last : {S P C D W O E : Type 0} (contents : W → Option (List ℕ)) (s t : Bool) (coming : C → List ℕ) (tape : P → Tape) (failed : P → ℕ) (table : D → DeviceTable) (gives : S → ℕ → DeviceTable → StationStep → S → Type 0) (taken : StationStep) (end : LifeEnd) (ms : ℕ) (from : S) (old : Station P C D W O E) (to : S) (new : Station P C D W O E)
+    → ms ≡ old.observer.now_ms → gives from ms (table old.device) taken to → Some end ≡ end_of taken → Does contents s t coming tape failed table (tasks_of (number_of old) taken) old new
     → Took contents s t coming tape failed table gives (Some end) from old to new
-took_last contents s t coming tape failed table gives taken end ms left from old to new at are came ends work = record {
+took_last contents s t coming tape failed table gives taken end ms from old to new at came ends work = record {
   taken = taken;
-  comes = subst (λ (n : ℕ). gives from n (totals_of (table old.device)).ids_left taken to) at (subst (λ (n : ℕ). gives from ms n taken to) are came);
+  comes = subst (λ (n : ℕ). gives from n (table old.device) taken to) at came;
   ends = ap (ended_by new.observer.reset) ends;
   does = subst (λ (x : Option LifeEnd). Does contents s t coming tape failed table (tasks_of (number_of old) taken ++ turn_unless x) old new) ends
       (does_on contents s t coming tape failed table old new new (tasks_of (number_of old) taken) [] work refl);
 }
 
 -- a step that is no end, and the turn behind it
-pub took_one : {S P C D W O E : Type 0} (contents : W → Option (List ℕ)) (s t : Bool) (coming : C → List ℕ) (tape : P → Tape) (failed : P → ℕ) (table : D → DeviceTable) (gives : S → ℕ → ℕ → StationStep → S → Type 0) (taken : StationStep) (ms left : ℕ) (from : S) (old middle : Station P C D W O E) (to : S) (new : Station P C D W O E)
-    → ms ≡ old.observer.now_ms → left ≡ (totals_of (table old.device)).ids_left → gives from ms left taken to → None ≡ end_of taken → Does contents s t coming tape failed table (tasks_of (number_of old) taken) old middle → Went contents s t coming tape failed table middle new
+pub took_one : {S P C D W O E : Type 0} (contents : W → Option (List ℕ)) (s t : Bool) (coming : C → List ℕ) (tape : P → Tape) (failed : P → ℕ) (table : D → DeviceTable) (gives : S → ℕ → DeviceTable → StationStep → S → Type 0) (taken : StationStep) (ms : ℕ) (from : S) (old middle : Station P C D W O E) (to : S) (new : Station P C D W O E)
+    → ms ≡ old.observer.now_ms → gives from ms (table old.device) taken to → None ≡ end_of taken → Does contents s t coming tape failed table (tasks_of (number_of old) taken) old middle → Went contents s t coming tape failed table middle new
     → Took contents s t coming tape failed table gives (reset_end new.observer.reset) from old to new
-took_one contents s t coming tape failed table gives taken ms left from old middle to new at are came ends work turn = record {
+took_one contents s t coming tape failed table gives taken ms from old middle to new at came ends work turn = record {
   taken = taken;
-  comes = subst (λ (n : ℕ). gives from n (totals_of (table old.device)).ids_left taken to) at (subst (λ (n : ℕ). gives from ms n taken to) are came);
+  comes = subst (λ (n : ℕ). gives from n (table old.device) taken to) at came;
   ends = ap (ended_by new.observer.reset) ends;
   does = subst (λ (x : Option LifeEnd). Does contents s t coming tape failed table (tasks_of (number_of old) taken ++ turn_unless x) old new) ends
       (does_on contents s t coming tape failed table old middle new (tasks_of (number_of old) taken) (Turn ∷ []) work (turned contents s t coming tape failed table middle new turn));
 }
 
-pub took_as : {S P C D W O E : Type 0} (contents : W → Option (List ℕ)) (s t : Bool) (coming : C → List ℕ) (tape : P → Tape) (failed : P → ℕ) (table : D → DeviceTable) (gives : S → ℕ → ℕ → StationStep → S → Type 0) (end other : Option LifeEnd) (from : S) (old : Station P C D W O E) (to : S) (new : Station P C D W O E)
+pub took_as : {S P C D W O E : Type 0} (contents : W → Option (List ℕ)) (s t : Bool) (coming : C → List ℕ) (tape : P → Tape) (failed : P → ℕ) (table : D → DeviceTable) (gives : S → ℕ → DeviceTable → StationStep → S → Type 0) (end other : Option LifeEnd) (from : S) (old : Station P C D W O E) (to : S) (new : Station P C D W O E)
     → end ≡ other → Took contents s t coming tape failed table gives end from old to new → Took contents s t coming tape failed table gives other from old to new
 took_as contents s t coming tape failed table gives end other from old to new same took = subst (λ (x : Option LifeEnd). Took contents s t coming tape failed table gives x from old to new) same took
 
-pub took_none : {S P C D W O E : Type 0} (contents : W → Option (List ℕ)) (s t : Bool) (coming : C → List ℕ) (tape : P → Tape) (failed : P → ℕ) (table : D → DeviceTable) (gives : S → ℕ → ℕ → StationStep → S → Type 0) (from : S) (old : Station P C D W O E) → TookMany contents s t coming tape failed table gives zero from old from old
+pub took_none : {S P C D W O E : Type 0} (contents : W → Option (List ℕ)) (s t : Bool) (coming : C → List ℕ) (tape : P → Tape) (failed : P → ℕ) (table : D → DeviceTable) (gives : S → ℕ → DeviceTable → StationStep → S → Type 0) (from : S) (old : Station P C D W O E) → TookMany contents s t coming tape failed table gives zero from old from old
 took_none contents s t coming tape failed table gives from old = (refl, refl)
 
-pub took_more : {S P C D W O E : Type 0} (contents : W → Option (List ℕ)) (s t : Bool) (coming : C → List ℕ) (tape : P → Tape) (failed : P → ℕ) (table : D → DeviceTable) (gives : S → ℕ → ℕ → StationStep → S → Type 0) (count : ℕ) (from : S) (old : Station P C D W O E) (at : S) (mid : Station P C D W O E) (to : S) (new : Station P C D W O E)
+pub took_more : {S P C D W O E : Type 0} (contents : W → Option (List ℕ)) (s t : Bool) (coming : C → List ℕ) (tape : P → Tape) (failed : P → ℕ) (table : D → DeviceTable) (gives : S → ℕ → DeviceTable → StationStep → S → Type 0) (count : ℕ) (from : S) (old : Station P C D W O E) (at : S) (mid : Station P C D W O E) (to : S) (new : Station P C D W O E)
     → TookMany contents s t coming tape failed table gives count from old at mid → Took contents s t coming tape failed table gives None at mid to new → TookMany contents s t coming tape failed table gives (count + 1) from old to new
 took_more contents s t coming tape failed table gives count from old at mid to new many one =
     let next : suc count ≡ count + 1 = omega arith in
     let all : TookMany contents s t coming tape failed table gives (suc count) from old to new = (at, mid, many, one) in
     subst (λ (n : ℕ). TookMany contents s t coming tape failed table gives n from old to new) next all
 
-pub takes_all : {S P C D W O E : Type 0} (contents : W → Option (List ℕ)) (s t : Bool) (coming : C → List ℕ) (tape : P → Tape) (failed : P → ℕ) (table : D → DeviceTable) (gives : S → ℕ → ℕ → StationStep → S → Type 0) (count : ℕ) (end : LifeEnd) (from : S) (old : Station P C D W O E) (at : S) (mid : Station P C D W O E) (to : S) (new : Station P C D W O E)
+pub takes_all : {S P C D W O E : Type 0} (contents : W → Option (List ℕ)) (s t : Bool) (coming : C → List ℕ) (tape : P → Tape) (failed : P → ℕ) (table : D → DeviceTable) (gives : S → ℕ → DeviceTable → StationStep → S → Type 0) (count : ℕ) (end : LifeEnd) (from : S) (old : Station P C D W O E) (at : S) (mid : Station P C D W O E) (to : S) (new : Station P C D W O E)
     → TookMany contents s t coming tape failed table gives count from old at mid → Took contents s t coming tape failed table gives (Some end) at mid to new → Takes contents s t coming tape failed table gives end from old to new
 takes_all contents s t coming tape failed table gives count end from old at mid to new many last = record { count = count; at = at; mid = mid; many = many; last = last }
 
-pub took_all : {S P C D W O E : Type 0} (contents : W → Option (List ℕ)) (s t : Bool) (coming : C → List ℕ) (tape : P → Tape) (failed : P → ℕ) (table : D → DeviceTable) (gives : S → ℕ → ℕ → StationStep → S → Type 0) (slots : ℕ) (end : LifeEnd) (from : S) (old begun : Station P C D W O E) (to : S) (new : Station P C D W O E)
+pub took_all : {S P C D W O E : Type 0} (contents : W → Option (List ℕ)) (s t : Bool) (coming : C → List ℕ) (tape : P → Tape) (failed : P → ℕ) (table : D → DeviceTable) (gives : S → ℕ → DeviceTable → StationStep → S → Type 0) (slots : ℕ) (end : LifeEnd) (from : S) (old begun : Station P C D W O E) (to : S) (new : Station P C D W O E)
     → Does contents s t coming tape failed table (Rest ∷ starts_of slots) old begun → Takes contents s t coming tape failed table gives end from begun to new → TookAll contents s t coming tape failed table gives slots end from old to new
 took_all contents s t coming tape failed table gives slots end from old begun to new begins takes = record { begun = begun; begins = begins; takes = takes }
 
-pub lived_so : {S P C D W O E : Type 0} (contents : W → Option (List ℕ)) (s t : Bool) (coming : C → List ℕ) (tape : P → Tape) (failed : P → ℕ) (table : D → DeviceTable) (gives : S → ℕ → ℕ → StationStep → S → Type 0) (slots : ℕ) (end ended : LifeEnd) (from : S) (old last : Station P C D W O E) (to : S) (new : Station P C D W O E)
+pub lived_so : {S P C D W O E : Type 0} (contents : W → Option (List ℕ)) (s t : Bool) (coming : C → List ℕ) (tape : P → Tape) (failed : P → ℕ) (table : D → DeviceTable) (gives : S → ℕ → DeviceTable → StationStep → S → Type 0) (slots : ℕ) (end ended : LifeEnd) (from : S) (old last : Station P C D W O E) (to : S) (new : Station P C D W O E)
     → TookAll contents s t coming tape failed table gives slots end from old to last → EndsLife contents s t coming tape failed table slots end ended last new → Lived contents s t coming tape failed table gives slots ended from old to new
 lived_so contents s t coming tape failed table gives slots end ended from old last to new takes ends =
     let all : Lived contents s t coming tape failed table gives slots end from old to new = record { last = last; takes = takes; closes = ends.closes } in

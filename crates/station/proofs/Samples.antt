@@ -6,6 +6,7 @@ use Rattle.station.specs.declared.script.run.ScriptRun.{ScriptRun}
 use Rattle.station.specs.declared.script.lines.DueTime.TheVariants.{At, Every}
 use Rattle.station.specs.declared.step.StationStep.TheVariants as step
 use Rattle.port_faults.specs.declared.orders.order.PortOrder.TheVariants as order
+use Rattle.station.specs.declared.script.lines.ScriptAct.TheVariants as act
 use Rattle.station.specs.declared.script.lines.ScriptLine.{ScriptLine}
 use Rattle.station.specs.Exact.{are_whole, events_of, left_of}
 use Rattle.station.specs.Recorded.{Task}
@@ -41,7 +42,7 @@ not_at_0 = refl
 
 -- at 20 cut, and each 10 ms pause 5
 abbrev two_lines : List ScriptLine
-two_lines = record { due = At 20; step = step.Order order.Cut } ∷ record { due = Every 10; step = step.Order (order.Pause 5) } ∷ []
+two_lines = record { due = At 20; guard = None; act = act.Do (step.Order order.Cut) } ∷ record { due = Every 10; guard = None; act = act.Do (step.Order (order.Pause 5)) } ∷ []
 
 abbrev begun : ScriptRun
 begun = record { ms = 0; line = 0 }
@@ -70,7 +71,7 @@ waits_not : wait_of begun 25 100 two_lines ≡ 0
 waits_not = refl
 
 -- at time 0 a line that is due then is taken
-at_0 : taken begun 0 (record { due = At 0; step = step.Order order.Cut } ∷ []) ≡ Some (record { ms = 0; line = 0 })
+at_0 : taken begun 0 (record { due = At 0; guard = None; act = act.Do (step.Order order.Cut) } ∷ []) ≡ Some (record { ms = 0; line = 0 })
 at_0 = refl
 
 -- two turns with a start between them, and the end of the sessions: the clock gives 5 ms and then none, the port a cut at the second turn

@@ -48,7 +48,7 @@ same_last due now time le quiet = last_alone time due _ _ (last time due) (stays
 
 -- NOTHING IS TAKEN BEFORE THE NEXT TIME
 
-abbrev Before : ℕ → Option ℕ → Type 0
+abbrev pub Before : ℕ → Option ℕ → Type 0
 Before time None = Unit {0}
 Before time (Some next) = time < next
 
@@ -56,7 +56,7 @@ quiet_before : (due : DueTime) (now time : ℕ) (r : Option ℕ) → time < 2 ^ 
 quiet_before due now time None fits is before = λ later behind below. is later behind (omega (arith, fits))
 quiet_before due now time (Some next) fits is before = λ later behind below. is.1.1 later behind (omega (arith, before, below))
 
-before_both : (time : ℕ) (one other : Option ℕ) → Before time (earlier one other) → Before time one × Before time other
+pub before_both : (time : ℕ) (one other : Option ℕ) → Before time (earlier one other) → Before time one × Before time other
 before_both time (Some one) (Some other) before = (omega (arith, before), omega (arith, before))
 before_both time (Some one) None before = (before, tt)
 before_both time None (Some other) before = (tt, before)
@@ -95,7 +95,7 @@ left_then run time number behind =
     ap (λ b. cond (b || ((time == run.ms) && nat_le run.line number)) (Some (record { ms = time; line = number })) None) is
 
 -- one of two times is the earlier one
-earlier_is : (one other : Option ℕ) (time : ℕ) → earlier one other ≡ Some time → (one ≡ Some time) ⊎ (other ≡ Some time)
+pub earlier_is : (one other : Option ℕ) (time : ℕ) → earlier one other ≡ Some time → (one ≡ Some time) ⊎ (other ≡ Some time)
 earlier_is None other time is = inr is
 earlier_is (Some one) None time is = inl is
 earlier_is (Some one) (Some other) time is = go (leb one other) refl

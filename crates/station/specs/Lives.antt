@@ -7,7 +7,6 @@ use Rattle.cip_events.specs.Clock.{longest_tick}
 use Rattle.cip_events.specs.declared.event.Event.{Event}
 use Rattle.cip_events.specs.declared.event.Event.TheVariants as event
 use Rattle.cip_tables.specs.declared.table.DeviceTable.{DeviceTable}
-use Rattle.cip_tables.specs.States.{totals_of}
 use Rattle.station.specs.declared.step.LifeEnd.{LifeEnd}
 use Rattle.station.specs.declared.step.LifeEnd.TheVariants.{Restart}
 use Rattle.station.specs.declared.step.StationStep.{StationStep}
@@ -64,20 +63,20 @@ turn_unless (Some end) = []
 -- The source gave a step at the time of the station's clock, and it was taken: what the step says was done, and a turn was made
 -- behind it. The answer says how the life ends, if it ends with the step or with that turn: nothing is done behind a turn in which a
 -- peer has requested a reset.
-pub record Took {S P C D W O E : Type 0} (contents : W → Option (List ℕ)) (scripted timed : Bool) (coming : C → List ℕ) (tape : P → Tape) (failed : P → ℕ) (table : D → DeviceTable) (gives : S → ℕ → ℕ → StationStep → S → Type 0) (end : Option LifeEnd) (from : S) (old : Station P C D W O E) (to : S) (new : Station P C D W O E) : Type 0 where
+pub record Took {S P C D W O E : Type 0} (contents : W → Option (List ℕ)) (scripted timed : Bool) (coming : C → List ℕ) (tape : P → Tape) (failed : P → ℕ) (table : D → DeviceTable) (gives : S → ℕ → DeviceTable → StationStep → S → Type 0) (end : Option LifeEnd) (from : S) (old : Station P C D W O E) (to : S) (new : Station P C D W O E) : Type 0 where
   pub taken : StationStep
-  pub comes : gives from old.observer.now_ms (totals_of (table old.device)).ids_left taken to
+  pub comes : gives from old.observer.now_ms (table old.device) taken to
   pub ends : end ≡ ended_by new.observer.reset (end_of taken)
   pub does : Does contents scripted timed coming tape failed table (tasks_of (number_of old) taken ++ turn_unless (end_of taken)) old new
 
 -- So many steps were taken, one behind another, and none of them ends the life.
-abbrev pub TookMany : {S P C D W O E : Type 0} (contents : W → Option (List ℕ)) (scripted timed : Bool) (coming : C → List ℕ) (tape : P → Tape) (failed : P → ℕ) (table : D → DeviceTable) (gives : S → ℕ → ℕ → StationStep → S → Type 0) (count : ℕ) → S → Station P C D W O E → S → Station P C D W O E → Type 0
+abbrev pub TookMany : {S P C D W O E : Type 0} (contents : W → Option (List ℕ)) (scripted timed : Bool) (coming : C → List ℕ) (tape : P → Tape) (failed : P → ℕ) (table : D → DeviceTable) (gives : S → ℕ → DeviceTable → StationStep → S → Type 0) (count : ℕ) → S → Station P C D W O E → S → Station P C D W O E → Type 0
 TookMany contents scripted timed coming tape failed table gives zero from old to new = (to ≡ from) × (new ≡ old)
 TookMany {S} {P} {C} {D} {W} {O} {E} contents scripted timed coming tape failed table gives (suc count) from old to new =
     (at : S) × (mid : Station P C D W O E) × TookMany contents scripted timed coming tape failed table gives count from old at mid × Took contents scripted timed coming tape failed table gives None at mid to new
 
 -- Steps were taken, one behind another, and the last one ends the life so.
-pub record Takes {S P C D W O E : Type 0} (contents : W → Option (List ℕ)) (scripted timed : Bool) (coming : C → List ℕ) (tape : P → Tape) (failed : P → ℕ) (table : D → DeviceTable) (gives : S → ℕ → ℕ → StationStep → S → Type 0) (end : LifeEnd) (from : S) (old : Station P C D W O E) (to : S) (new : Station P C D W O E) : Type 0 where
+pub record Takes {S P C D W O E : Type 0} (contents : W → Option (List ℕ)) (scripted timed : Bool) (coming : C → List ℕ) (tape : P → Tape) (failed : P → ℕ) (table : D → DeviceTable) (gives : S → ℕ → DeviceTable → StationStep → S → Type 0) (end : LifeEnd) (from : S) (old : Station P C D W O E) (to : S) (new : Station P C D W O E) : Type 0 where
   pub count : ℕ
   pub at : S
   pub mid : Station P C D W O E
@@ -140,13 +139,13 @@ pub record EndsLife {P C D W O E : Type 0} (contents : W → Option (List ℕ)) 
   pub closes : EndsSo contents scripted timed coming tape failed table slots end old new
 
 -- A life up to its end: each of so many slots was asked to open, and the steps of the source were taken.
-pub record TookAll {S P C D W O E : Type 0} (contents : W → Option (List ℕ)) (scripted timed : Bool) (coming : C → List ℕ) (tape : P → Tape) (failed : P → ℕ) (table : D → DeviceTable) (gives : S → ℕ → ℕ → StationStep → S → Type 0) (slots : ℕ) (end : LifeEnd) (from : S) (old : Station P C D W O E) (to : S) (new : Station P C D W O E) : Type 0 where
+pub record TookAll {S P C D W O E : Type 0} (contents : W → Option (List ℕ)) (scripted timed : Bool) (coming : C → List ℕ) (tape : P → Tape) (failed : P → ℕ) (table : D → DeviceTable) (gives : S → ℕ → DeviceTable → StationStep → S → Type 0) (slots : ℕ) (end : LifeEnd) (from : S) (old : Station P C D W O E) (to : S) (new : Station P C D W O E) : Type 0 where
   pub begun : Station P C D W O E
   pub begins : Does contents scripted timed coming tape failed table (Rest ∷ starts_of slots) old begun
   pub takes : Takes contents scripted timed coming tape failed table gives end from begun to new
 
 -- A whole life, which ended so.
-pub record Lived {S P C D W O E : Type 0} (contents : W → Option (List ℕ)) (scripted timed : Bool) (coming : C → List ℕ) (tape : P → Tape) (failed : P → ℕ) (table : D → DeviceTable) (gives : S → ℕ → ℕ → StationStep → S → Type 0) (slots : ℕ) (end : LifeEnd) (from : S) (old : Station P C D W O E) (to : S) (new : Station P C D W O E) : Type 0 where
+pub record Lived {S P C D W O E : Type 0} (contents : W → Option (List ℕ)) (scripted timed : Bool) (coming : C → List ℕ) (tape : P → Tape) (failed : P → ℕ) (table : D → DeviceTable) (gives : S → ℕ → DeviceTable → StationStep → S → Type 0) (slots : ℕ) (end : LifeEnd) (from : S) (old : Station P C D W O E) (to : S) (new : Station P C D W O E) : Type 0 where
   pub last : Station P C D W O E
   pub takes : TookAll contents scripted timed coming tape failed table gives slots end from old to last
   pub closes : EndsSo contents scripted timed coming tape failed table slots end last new

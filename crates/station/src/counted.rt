@@ -6,6 +6,7 @@ ghost use Rattle.station.specs.Sources.{Counts};
 use crate::sources::StepSource;
 use crate::step::StationStep;
 use cip_events::Event;
+use cip_tables::Device;
 use cip_types::{Items, OutOfMemory};
 
 /// What the host of a station has counted of its interface.
@@ -41,12 +42,16 @@ impl<S: StepSource, H: HostCounts> CountedSteps<S, H> {
 }
 
 impl<S: StepSource, H: HostCounts> StepSource for CountedSteps<S, H> {
-    ghost gives = { λ old now left step new. Counts S.gives old now left step new };
+    ghost gives = { λ old now table step new. Counts S.gives old now table step new };
 
-    fn next_step(&mut self, now_ms: u64, ids_left: u32) -> Result<StationStep, OutOfMemory> {
+    fn next_step<D: Device>(
+        &mut self,
+        now_ms: u64,
+        device: &D,
+    ) -> Result<StationStep, OutOfMemory> {
         match self.host.next_counters(now_ms)? {
             Some(bytes) => Ok(StationStep::Call(Event::Counters { bytes })),
-            None => self.steps.next_step(now_ms, ids_left),
+            None => self.steps.next_step(now_ms, device),
         }
     }
 }

@@ -79,7 +79,7 @@ impl<
         ensures taken { IfOk result (λ end. Took W.contents P.is_scripted C.is_scripted C.coming P.tape P.failed
             D.table S.gives end source.old self.old source.new self.new) }
     {
-        let step = source.next_step(self.now_ms(), self.ids_left())?;
+        let step = source.next_step(self.now_ms(), &self.device)?;
         let (end, wait_ms) = (end_of(&step), wait_behind(&step));
         self.perform(step)?;
         match end {
@@ -111,6 +111,7 @@ impl<
             StationStep::Status => self.print_status(),
             StationStep::NoCall { line } => self.report_line(line),
             StationStep::Order(order) => self.order(order),
+            StationStep::Say { text } => self.print_said(text.as_slice()),
             StationStep::Wait { ms: _ } => Ok(()),
             StationStep::End(end) => self.report_end(end),
         }

@@ -21,11 +21,12 @@ use cip_tables::{Config, Device, Event};
 use cip_types::{Ms, Node, OutOfMemory};
 use scanner_table::Session;
 use station_lines::{
-    AttributeCall, LineSink, LinkReport, Points, StationTraffic, call_event, closing_ms, owners_of,
-    push_connected, push_report, push_starved, push_unbound,
+    AttributeCall, EventMoment, LineSink, LinkReport, Points, StationTraffic, call_event,
+    closing_ms, owners_of, push_connected, push_report, push_starved, push_unbound,
 };
 use station_record::{RecordFault, RecordSink};
 use std::alloc::Global;
+use std::str;
 use udp_runner::{Clock, DataGroup, GroupPort, Output, RunFault, act, turn_in_time};
 
 /// At most so many reports of the port are told behind one turn.
@@ -444,6 +445,20 @@ impl<P: GroupPort, C: Clock, D: Device, W: RecordSink + Drop, O: LineSink, E: Li
         let at = self.observer.moment();
         self.points
             .push_status(&mut self.text, &self.device, self.observer.traffic(), at)?;
+        self.observer.print(self.text.as_bytes());
+        Ok(())
+    }
+
+    /// Prints what a script tells of one of its lines, behind the number of the last event and the time.
+    pub(crate) fn print_said(&mut self, said: &[u8]) -> Result<(), EarlyEnd>
+        ensures { Rests P.is_scripted P.tape P.failed self.old self.new }
+    {
+        self.text.clear();
+        let EventMoment { number, ms } = self.observer.moment();
+        let said = str::from_utf8(said).unwrap_or("");
+        if write!(&mut self.text, "{number} at {ms} {said}\n").is_err() {
+            return Err(EarlyEnd::OutOfMemory);
+        }
         self.observer.print(self.text.as_bytes());
         Ok(())
     }

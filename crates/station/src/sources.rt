@@ -1,13 +1,13 @@
 //! Where the steps of a station come from: its input, and the script of its device.
 
-ghost use Rattle.std.specs.Prelude.{◌≡◌, IfOk, OnOk};
-ghost use Rattle.station.specs.Script.Runs.{after, taken};
-ghost use Rattle.station.specs.Sources.{count_after, plant_ms, script_step, step_of, typed_of};
+ghost use Rattle.std.specs.Prelude.{◌≡◌, IfOk};
+ghost use Rattle.station.specs.Sources.{GivesBehind, count_after, plant_ms, step_of, typed_of};
 ghost use Rattle.station.specs.Times.{is_over, pause_ms};
 
-use crate::script::{ScriptLine, ScriptRun};
+use crate::script::{Look, ScriptLine, ScriptState};
 use crate::step::{LifeEnd, StationStep};
 use cip_events::Event;
+use cip_tables::Device;
 use cip_types::OutOfMemory;
 use station_lines::{CallLines, InputLine, NextLine, read_line};
 use station_record::IdSupply;
@@ -16,18 +16,19 @@ use std::alloc::Global;
 /// A station looks for what is typed at least so often, in milliseconds, and earlier if its source wakes the port.
 const LOOK_MS: u64 = 1_000;
 
-/// The steps of a station. Contracts see them as a relation: from the source, at a time of the station's clock and with so many ids
-/// left, by the step that it gives, to the source behind it.
+/// The steps of a station. Contracts see them as a relation: from the source, at a time of the station's clock and with the table of its
+/// device, by the step that it gives, to the source behind it.
 pub trait StepSource {
     ghost use Rattle.std.specs.Prelude.{ℕ};
+    ghost use Rattle.cip_tables.specs.declared.table.DeviceTable.{DeviceTable};
     ghost use Rattle.station.specs.declared.step.StationStep.{StationStep};
 
-    ghost gives: { Self → ℕ → ℕ → StationStep → Self → Type 0 };
+    ghost gives: { Self → ℕ → DeviceTable → StationStep → Self → Type 0 };
 
-    /// What the station does next, so many milliseconds after its life began, where its device has so many connection ids left.
-    /// Never waits. The fault: an allocation was refused.
-    fn next_step(&mut self, now_ms: u64, ids_left: u32) -> Result<StationStep, OutOfMemory>
-        ensures { IfOk result (λ step. gives self.old now_ms ids_left step self.new) };
+    /// What the station does next, so many milliseconds after its life began, with this device. Never waits. The fault: an
+    /// allocation was refused.
+    fn next_step<D: Device>(&mut self, now_ms: u64, device: &D) -> Result<StationStep, OutOfMemory>
+        ensures { IfOk result (λ step. gives self.old now_ms (D.table device.now) step self.new) };
 }
 
 /// The steps that are typed. Contracts see them as a relation, as those of a `StepSource`.
@@ -108,13 +109,13 @@ fn step_of(said: InputLine, line: u64) -> StationStep
     }
 }
 
-/// The steps of a device in one life: what is typed comes first, then what its script has due. A station without a plant is a
-/// device without a script.
+/// The steps of a device in one life: first what its script decides at a look at the device, then what is typed, then what its script
+/// has due. A station without a script has an empty one.
 #[derive(Drop)]
 pub struct DeviceSteps<'a, T> {
     alloc: Global,
     script: &'a [ScriptLine],
-    run: ScriptRun,
+    state: ScriptState,
     typed: T,
     /// When the life began, in milliseconds since the plant began.
     begun_ms: u64,
@@ -123,13 +124,15 @@ pub struct DeviceSteps<'a, T> {
 }
 
 impl<'a, T: TypedSteps> DeviceSteps<'a, T> {
-    /// The steps of a device of a plant in a life that begins at this time of the plant. Its script was taken so far.
+    /// The steps of a device in a life that begins at this time of its plant or station, and is over so many milliseconds later if it
+    /// has an end. Its script was taken so far.
     pub fn scripted(
         alloc: Global,
         script: &'a [ScriptLine],
-        run: ScriptRun,
+        state: ScriptState,
         typed: T,
         begun_ms: u64,
+        end_ms: Option<u64>,
     ) -> DeviceSteps<'a, T>
     where
         T: Drop,
@@ -137,10 +140,10 @@ impl<'a, T: TypedSteps> DeviceSteps<'a, T> {
         DeviceSteps {
             alloc,
             script,
-            run,
+            state,
             typed,
             begun_ms,
-            end_ms: None,
+            end_ms,
         }
     }
 
@@ -152,56 +155,77 @@ impl<'a, T: TypedSteps> DeviceSteps<'a, T> {
         DeviceSteps {
             alloc,
             script: &[],
-            run: ScriptRun::new(),
+            state: ScriptState::none(alloc),
             typed,
             begun_ms: 0,
             end_ms,
         }
     }
 
-    /// How far the script was taken.
-    pub fn run(&self) -> ScriptRun
-        ensures { result ≡ self.now.run }
+    /// How far the script was taken, and how its lines went.
+    pub fn state(&self) -> &ScriptState
+        ensures { result.now ≡ self.now.state }
     {
-        self.run
+        &self.state
     }
 
-    /// What the script has the device do, so many milliseconds after the life began.
-    fn script_step(&mut self, now_ms: u64) -> Result<StationStep, OutOfMemory>
-        ensures step { IfOk result (λ step. step ≡ script_step self.old.script.now self.old.run
-            (pause_ms now_ms self.old.end_ms) (plant_ms self.old.begun_ms now_ms)) }
-        ensures left { OnOk result (self.new ≡ record self.old {
-          run = after self.old.run (taken self.old.run (plant_ms self.old.begun_ms now_ms) self.old.script.now);
-        }) }
+    /// What the script has at a look, so many milliseconds after the life began.
+    fn look<'b, D: Device>(&self, now_ms: u64, device: &'b D) -> Look<'b, D>
+    where
+        'a: 'b,
+        ensures script { result.script.now ≡ self.now.script.now }
+        ensures time { result.now_ms ≡ plant_ms self.now.begun_ms now_ms }
+        ensures device { result.device.now ≡ device.now }
     {
-        let (script, at_ms) = (self.script, self.begun_ms.saturating_add(now_ms));
-        match self.run.next_line(script, at_ms) {
-            Some(due) => match script.get(due.line) {
-                Some(line) => line.step.copy(self.alloc),
-                None => Ok(StationStep::Wait { ms: 0 }),
-            },
-            None => {
-                let most_ms = pause_ms(now_ms, self.end_ms);
-                let ms = self.run.wait_ms(script, at_ms, most_ms);
-                Ok(StationStep::Wait { ms })
-            }
+        Look {
+            alloc: self.alloc,
+            script: self.script,
+            now_ms: self.begun_ms.saturating_add(now_ms),
+            device,
         }
+    }
+
+    /// What was typed, or else what the script has due, so many milliseconds after the life began.
+    fn step_behind<D: Device>(
+        &mut self,
+        now_ms: u64,
+        look: &Look<'_, D>,
+    ) -> Result<StationStep, OutOfMemory>
+        requires script { look.now.script.now ≡ self.old.script.now }
+        requires time { look.now.now_ms ≡ plant_ms self.old.begun_ms now_ms }
+        ensures { IfOk result (λ step.
+            GivesBehind T.types self.old now_ms (D.table look.now.device.now) step self.new) }
+    {
+        if let Some(step) = self.typed.next_typed()? {
+            return Ok(step);
+        }
+        if let Some(step) = look.due_step(&mut self.state)? {
+            return Ok(step);
+        }
+        let most_ms = pause_ms(now_ms, self.end_ms);
+        let ms = look.wait_ms(&self.state, most_ms);
+        Ok(StationStep::Wait { ms })
     }
 }
 
 impl<'a, T: TypedSteps> StepSource for DeviceSteps<'a, T> {
     ghost use Rattle.station.specs.Sources.{Gives};
 
-    ghost gives = { λ old now left step new. Gives T.types old now step new };
+    ghost gives = { λ old now table step new. Gives T.types old now table step new };
 
-    fn next_step(&mut self, now_ms: u64, _ids_left: u32) -> Result<StationStep, OutOfMemory> {
+    fn next_step<D: Device>(
+        &mut self,
+        now_ms: u64,
+        device: &D,
+    ) -> Result<StationStep, OutOfMemory> {
         if is_over(now_ms, self.end_ms) {
             return Ok(StationStep::End(LifeEnd::Over));
         }
-        match self.typed.next_typed()? {
-            Some(step) => Ok(step),
-            None => self.script_step(now_ms),
+        let look = self.look(now_ms, device);
+        if let Some(step) = look.decided_step(&mut self.state)? {
+            return Ok(step);
         }
+        self.step_behind(now_ms, &look)
     }
 }
 
@@ -221,17 +245,28 @@ impl<S: StepSource, I: IdSupply> SuppliedSteps<S, I> {
     {
         SuppliedSteps { source, supply }
     }
+
+    /// The source.
+    pub fn source(&self) -> &S
+        ensures { result.now ≡ self.now.source }
+    {
+        &self.source
+    }
 }
 
 impl<S: StepSource, I: IdSupply> StepSource for SuppliedSteps<S, I> {
     ghost use Rattle.station.specs.Sources.{GivesSupplied};
 
-    ghost gives = { λ old now left step new. GivesSupplied S.gives I.supplies old now left step new };
+    ghost gives = { λ old now table step new. GivesSupplied S.gives I.supplies old now table step new };
 
-    fn next_step(&mut self, now_ms: u64, ids_left: u32) -> Result<StationStep, OutOfMemory> {
-        match self.supply.next_block(ids_left) {
+    fn next_step<D: Device>(
+        &mut self,
+        now_ms: u64,
+        device: &D,
+    ) -> Result<StationStep, OutOfMemory> {
+        match self.supply.next_block(device.totals().ids_left) {
             Some(block) => Ok(StationStep::Call(Event::Ids { block })),
-            None => self.source.next_step(now_ms, ids_left),
+            None => self.source.next_step(now_ms, device),
         }
     }
 }

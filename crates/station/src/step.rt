@@ -32,6 +32,8 @@ pub enum StationStep {
     NoCall { line: u64 },
     /// Its port obeys an order.
     Order(PortOrder),
+    /// It prints what its script tells of a line.
+    Say { text: Items<u8> },
     /// It makes a turn that waits at most so many milliseconds. Behind each other step but an end it makes one that does not
     /// wait.
     Wait { ms: u64 },
@@ -50,6 +52,10 @@ impl StationStep {
             StationStep::Status => Ok(StationStep::Status),
             StationStep::NoCall { line } => Ok(StationStep::NoCall { line: *line }),
             StationStep::Order(order) => Ok(StationStep::Order(order_copy(alloc, order)?)),
+            StationStep::Say { text } => {
+                let text = Items::copy_of(alloc, text.as_slice())?;
+                Ok(StationStep::Say { text })
+            }
             StationStep::Wait { ms } => Ok(StationStep::Wait { ms: *ms }),
             StationStep::End(end) => Ok(StationStep::End(*end)),
         }

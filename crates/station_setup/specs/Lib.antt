@@ -1,3 +1,4 @@
+pub mod Reports
 pub mod Settings
 pub mod Unservable
 pub mod Opening

@@ -4,6 +4,7 @@
 mod describing;
 mod opening;
 mod place;
+mod reports;
 mod targets;
 mod unservable;
 
@@ -15,5 +16,6 @@ pub use opening::{
     station_of, unread_profile, with_block, with_incarnation, with_serials,
 };
 pub use place::{adapter_place, end_of, rates_of, scanner_place};
+pub use reports::{ReportFault, begin_report, end_report};
 pub use targets::targets_of;
 pub use unservable::{StationDefect, station_defect};

@@ -5,7 +5,10 @@
 mod adapter;
 mod adapter_work;
 mod answer;
+mod datagrams;
+mod frames;
 mod lines;
+mod opening;
 mod requests;
 mod scanner;
 mod scanner_work;
@@ -32,19 +35,24 @@ impl Taker {
         bytes.iter().for_each(|byte| self.add(*byte as u64));
     }
 
-    /// Takes an answer, and says how many datagrams it has.
-    pub fn take(&mut self, answer: Answer) -> usize {
-        assert!(answer.done, "an event is not done");
+    /// Takes the answer to an event, which has to be done.
+    pub fn take(&mut self, answer: &Answer) {
+        assert!(answer.is_done, "an event is not done");
         if self.is_summing {
-            answer.frames.iter().for_each(|frame| self.add_bytes(frame));
-            for sent in &answer.datagrams {
-                self.add(sent.address as u64);
-                sent.nodes.as_slice().iter().for_each(|node| self.add(*node as u64));
-                self.add_bytes(sent.bytes.as_slice());
-            }
-            self.add(answer.notices.len() as u64);
+            self.add_answer(answer);
         }
-        answer.datagrams.len()
+    }
+
+    #[inline(never)]
+    fn add_answer(&mut self, answer: &Answer) {
+        answer.frames().for_each(|frame| self.add_bytes(frame));
+        for (address, node, others, bytes) in answer.datagrams() {
+            self.add(address as u64);
+            self.add(node as u64);
+            others.iter().for_each(|it| self.add(*it as u64));
+            self.add_bytes(bytes);
+        }
+        self.add(answer.notices.len() as u64);
     }
 }
 

@@ -1,16 +1,17 @@
-//! Requests to an adapter, and their replies: paths, Forward_Open and Forward_Close.
+//! Requests to an adapter: paths, Forward_Open and Forward_Close.
 
-use crate::answer::{u16_at, u32_at, Triad};
+use crate::answer::Triad;
+use crate::datagrams::{u16_at, u32_at};
 
 /// A connection path (rule 4.6).
 #[derive(Default)]
 pub struct Path<'a> {
-    pub key: Option<[u8; 8]>,
+    pub key: Option<&'a [u8; 8]>,
     pub inhibit: Option<u8>,
     pub class: u32,
-    pub points: [u32; 3],
-    pub point_count: usize,
     pub data: Option<&'a [u8]>,
+    points: [u32; 3],
+    count: usize,
 }
 
 /// Why a path does not read.
@@ -25,20 +26,17 @@ pub fn read_path(mut bytes: &[u8]) -> Result<Path<'_>, PathFault> {
     let (mut step, mut is_shaped) = (0, true);
     while let Some(first) = bytes.first() {
         let length = match *first {
+            kind if kind & 0xE0 == 0x20 && kind & 3 < 3 && kind >> 2 & 7 < 5 => 2 + 2 * (kind & 3) as usize,
             0x34 if bytes.get(1) == Some(&4) => 10,
             0x43 => 2,
             0x80 => 2 + 2 * *bytes.get(1).ok_or(PathFault::Segment)? as usize,
-            kind if kind & 0xE0 == 0x20 && kind & 3 < 3 && kind >> 2 & 7 < 5 => [2, 4, 6][(kind & 3) as usize],
             _ => return Err(PathFault::Segment),
         };
-        if bytes.len() < length {
-            return Err(PathFault::Segment);
-        }
-        let (segment, rest) = bytes.split_at(length);
+        let (segment, rest) = bytes.split_at_checked(length).ok_or(PathFault::Segment)?;
         is_shaped &= path.add(segment, &mut step);
         bytes = rest;
     }
-    if is_shaped && path.point_count >= 2 {
+    if is_shaped && path.count >= 2 {
         Ok(path)
     } else {
         Err(PathFault::Shape)
@@ -46,7 +44,16 @@ pub fn read_path(mut bytes: &[u8]) -> Result<Path<'_>, PathFault> {
 }
 
 impl<'a> Path<'a> {
-    /// Adds a segment: false where it may not stand behind the ones before.
+    /// The configuration, and the consumed and the produced point.
+    pub fn points(&self) -> (Option<u32>, [u32; 2]) {
+        match self.points {
+            [config, consumed, produced] if self.count == 3 => (Some(config), [consumed, produced]),
+            [consumed, produced, _] => (None, [consumed, produced]),
+        }
+    }
+
+    /// Adds a segment: false where it may not be behind the ones before.
+    #[inline(always)]
     fn add(&mut self, segment: &'a [u8], step: &mut u8) -> bool {
         match segment[0] {
             0x34 => {
@@ -56,12 +63,12 @@ impl<'a> Path<'a> {
             0x43 => self.inhibit.replace(segment[1]).is_none(),
             0x80 => {
                 self.data = Some(&segment[2..]);
-                std::mem::replace(step, 3) == 2 && self.point_count >= 2
+                std::mem::replace(step, 3) == 2 && self.count >= 2
             }
             kind => {
-                let value = match kind & 3 {
-                    0 => segment[1] as u32,
-                    1 => u16_at(segment, 2) as u32,
+                let value = match segment.len() {
+                    2 => segment[1] as u32,
+                    4 => u16_at(segment, 2) as u32,
                     _ => u32_at(segment, 2),
                 };
                 self.add_logical(kind >> 2 & 7, value, step)
@@ -69,6 +76,7 @@ impl<'a> Path<'a> {
         }
     }
 
+    #[inline(always)]
     fn add_logical(&mut self, kind: u8, value: u32, step: &mut u8) -> bool {
         match (kind, *step) {
             (0, 0 | 1) => {
@@ -76,9 +84,9 @@ impl<'a> Path<'a> {
                 *step = 2;
                 true
             }
-            (1 | 3, 2) if self.point_count < 3 => {
-                self.points[self.point_count] = value;
-                self.point_count += 1;
+            (1 | 3, 2) if self.count < 3 => {
+                self.points[self.count] = value;
+                self.count += 1;
                 true
             }
             _ => false,
@@ -119,6 +127,16 @@ pub struct Opening<'a> {
     pub path: &'a [u8],
 }
 
+impl Opening<'_> {
+    pub fn is_multicast(&self) -> bool {
+        self.t_o.kind == 1
+    }
+
+    pub fn trigger(&self) -> u8 {
+        self.transport >> 4 & 7
+    }
+}
+
 pub enum Request<'a> {
     Open(u8, Opening<'a>),
     Close(Triad),
@@ -126,11 +144,19 @@ pub enum Request<'a> {
     Nothing,
 }
 
-fn triad_at(bytes: &[u8], at: usize) -> Triad {
-    Triad { serial: u16_at(bytes, at), vendor: u16_at(bytes, at + 2), originator: u32_at(bytes, at + 4) }
+/// Where the search for a triad begins: at its serial number, moved on by its originator.
+pub fn home_of(triad: Triad) -> u8 {
+    let mixed = triad.originator.wrapping_add(triad.vendor as u32).wrapping_mul(0x9E37_79B1);
+    triad.serial.wrapping_add((mixed >> 24) as u16) as u8
 }
 
-/// The data of a request of fixed length, behind which a path has the length that the last word but `back` states.
+#[inline(always)]
+fn triad_at(bytes: &[u8], at: usize) -> Triad {
+    let bytes = &bytes[at..at + 8];
+    Triad { serial: u16_at(bytes, 0), vendor: u16_at(bytes, 2), originator: u32_at(bytes, 4) }
+}
+
+/// The path behind data of fixed length, of which one byte states how many words the path has.
 fn with_path(body: &[u8], fixed: usize, words_at: usize) -> Result<&[u8], u8> {
     if body.len() < fixed {
         return Err(0x13);
@@ -148,11 +174,9 @@ pub fn read_request(bytes: &[u8]) -> Request<'_> {
     let [service, words, rest @ ..] = bytes else {
         return if bytes.is_empty() { Request::Nothing } else { Request::Refused(bytes[0], 0x13) };
     };
-    let length = 2 * *words as usize;
-    if rest.len() < length {
+    let Some((path, body)) = rest.split_at_checked(2 * *words as usize) else {
         return Request::Refused(*service, 0x13);
-    }
-    let (path, body) = rest.split_at(length);
+    };
     if path != [0x20, 6, 0x24, 1] {
         return Request::Refused(*service, 5);
     }
@@ -184,28 +208,4 @@ fn open(service: u8, body: &[u8]) -> Request<'_> {
             },
         ),
     }
-}
-
-/// A reply without data behind its status.
-pub fn reply(service: u8, general: u8, extended: &[u16]) -> Vec<u8> {
-    let mut bytes = Vec::with_capacity(40);
-    bytes.extend_from_slice(&[service | 0x80, 0, general, extended.len() as u8]);
-    for word in extended {
-        bytes.extend_from_slice(&word.to_le_bytes());
-    }
-    bytes
-}
-
-pub fn put_triad(bytes: &mut Vec<u8>, triad: Triad) {
-    bytes.extend_from_slice(&triad.serial.to_le_bytes());
-    bytes.extend_from_slice(&triad.vendor.to_le_bytes());
-    bytes.extend_from_slice(&triad.originator.to_le_bytes());
-}
-
-/// A refusal that names a connection (rule 6.8).
-pub fn refusal(service: u8, general: u8, extended: &[u16], triad: Triad) -> Vec<u8> {
-    let mut bytes = reply(service, general, extended);
-    put_triad(&mut bytes, triad);
-    bytes.extend_from_slice(&[0, 0]);
-    bytes
 }

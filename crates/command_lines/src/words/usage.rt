@@ -40,6 +40,8 @@ options, whose value is the next word or follows =, as in --seconds=5:
                  eip_station replay FILE FILE.2 .. replays it. A plant's FILE is a folder: NAME.1.trace, NAME.2.trace .. are a device's lives
   --record-bytes N  the record ends before it has more than N bytes (1073741824 if it is left out)
   --state FILE   counts the starts there, so that no id of an earlier start is used again (PROFILE.state if it is left out)
+  --script FILE  does what the lines of the file say, as a plant's script, and judges what they expect (docs/PROFILE.md, section 39)
+  --report FILE  writes what came of the scripts there, in the form of JUnit
   --incarnation N  the incarnation of this start, 1 to 255, in place of counting: one that no start before had, since its ids come again with it
   --inactivity S an adapter's stream over which no message comes for S seconds ends (the profile's or 120 if it is left out, 0: none)
   --serial N     the serial number (the profile's, or the one that was drawn once and stands in the state file)
@@ -73,5 +75,6 @@ It prints the outcome of each call and of each event with a notice, in the lines
 image that has changed N at MS output POINT HEX or N at MS image SLOT HEX: the number of the last event, and the time.
 It waits for no reader: lines that nobody reads are lost, and a line says how many.
 status: 0 done; 1 the station ended before its time, no device answered or records do not settle; 2 a wrong word; 3 a bad profile, trace, story or state; 4 an address that is none;
-        5 a socket cannot be made, as for a port in use; 6 the record or the state cannot be written; 7 no memory, or no thread
+        5 a socket cannot be made, as for a port in use; 6 the record, the state or the report cannot be written; 7 no memory, or no thread;
+        8 a script has not passed
 ";

@@ -61,7 +61,7 @@ fn words_of(setting: Setting) -> &'static str {
         Setting::Seconds => "the seconds are 1 to 1000000000",
         Setting::Record => "it is the name of a file, or of a plant's folder",
         Setting::RecordBytes => "the bytes are 1 to 18446744073709551615",
-        Setting::State => "it is the name of a file",
+        Setting::State | Setting::Script | Setting::Report => "it is the name of a file",
         Setting::Incarnation => "an incarnation is 1 to 255",
         Setting::Inactivity => "the seconds are 0 to 3600",
         Setting::Serial => "a serial number is 1 to 4294967295",

@@ -1,11 +1,12 @@
 -- The lines of a plant's file, each as its value or what is wrong with it.
-use Rattle.std.specs.Prelude.{ℕ, ◌==◌, nat_lt, if◌then◌else◌, List, [], ◌∷◌, codes, ok_or, option_map, option_and_then, Option, Some, None, Result, Ok, Err, ◌≡◌}
+use Rattle.std.specs.Prelude.{ℕ, ◌==◌, if◌then◌else◌, List, [], ◌∷◌, codes, ok_or, option_map, option_and_then, Option, Some, None, Result, Ok, Err, ◌≡◌}
 use Rattle.std.specs.Borrow.{Bor}
 use Rattle.std.specs.Str.{is_utf8}
 use Rattle.cip_types.specs.declared.names.Node.{Node}
 use Rattle.station.specs.declared.script.lines.DueTime.{DueTime}
 use Rattle.station.specs.declared.script.lines.DueTime.TheVariants.{At, Every}
-use Rattle.station.specs.declared.step.StationStep.{StationStep}
+use Rattle.script_checks.specs.declared.condition.Condition.{Condition}
+use Rattle.station.specs.declared.script.lines.ScriptAct.{ScriptAct}
 use Rattle.trace_words.specs.Reader.{Reader, Meanings, meaning, next_word, ends, ◌>>=◌}
 use Rattle.trace_words.specs.Words.{node_of, number_of, words_of}
 use Rattle.plant_rim.specs.declared.file.faults.PlantLineFault.{PlantLineFault}
@@ -15,8 +16,9 @@ use Rattle.plant_rim.specs.declared.file.faults.PlantReadFault.TheVariants.{Line
 use Rattle.plant_rim.specs.declared.file.line.FaultSetting.TheVariants as setting
 use Rattle.plant_rim.specs.declared.file.line.PlantLine.{PlantLine}
 use Rattle.plant_rim.specs.declared.file.line.PlantLine.TheVariants as line
-use Rattle.plant_rim.specs.File.Calls.{plant_call_of}
-use Rattle.plant_rim.specs.File.Texts.{behind_word, first_word, is_name, is_skipped, trimmed}
+use Rattle.plant_rim.specs.File.Acts.{act_of, condition_or_fault}
+use Rattle.plant_rim.specs.File.Made.{made, time_of, up_to}
+use Rattle.plant_rim.specs.File.Texts.{behind_word, cut_at, first_word, is_name, is_skipped, trimmed}
 
 -- A function answered this value or fault. If an allocation was refused, nothing is promised.
 abbrev pub Reads : {A : Type 0} → Result A PlantLineFault → Result A PlantReadFault → Type 0
@@ -24,15 +26,7 @@ Reads said (Ok value) = said ≡ Ok value
 Reads said (Err (Line why)) = said ≡ Err why
 Reads said (Err OutOfMemory) = Unit {0}
 
--- a value made of another one
-abbrev pub made : {A B : Type 0} → (A → B) → Result A PlantLineFault → Result B PlantLineFault
-made of (Ok value) = Ok (of value)
-made of (Err why) = Err why
-
 -- VALUES
-
-abbrev pub up_to : ℕ → List ℕ → Option ℕ
-up_to most word = option_and_then (λ number. if nat_lt most number then None else Some number) (number_of 64 word)
 
 abbrev pub percent_of : List ℕ → Result ℕ PlantLineFault
 percent_of word = ok_or (up_to 100 word) fault.BadPercent
@@ -48,9 +42,6 @@ not_zero number = if number == 0 then None else Some number
 
 abbrev pub seconds_of : List ℕ → Result ℕ PlantLineFault
 seconds_of word = ok_or (option_and_then not_zero (up_to 1000000000 word)) fault.BadSeconds
-
-abbrev pub time_of : List ℕ → Option ℕ
-time_of word = up_to 4294967295 word
 
 abbrev pub at_of : List ℕ → Result DueTime PlantLineFault
 at_of word = ok_or (option_map At (time_of word)) fault.BadTime
@@ -94,21 +85,44 @@ device_named name (byte ∷ bytes) address = device_with name (byte ∷ bytes) (
 abbrev pub device_of : List ℕ → Result PlantLine PlantLineFault
 device_of rest = if is_name (first_word rest) then device_named (first_word rest) (first_word (behind_word rest)) (behind_word (behind_word rest)) else Err fault.BadName
 
--- a line of a script with this time and step
-abbrev pub script_with : DueTime → Option StationStep → Result PlantLine PlantLineFault
-script_with due None = Err fault.NoCall
-script_with due (Some step) = Ok (line.Script (record { due = due; step = step }))
+-- a line of a script that is due so, with its condition
+abbrev pub script_with : DueTime → Option Condition → Result ScriptAct PlantLineFault → Result PlantLine PlantLineFault
+script_with due guard (Err why) = Err why
+script_with due guard (Ok said) = Ok (line.Script (record { due = due; guard = guard; act = said }))
 
-abbrev pub script_due : Result DueTime PlantLineFault → Option StationStep → Result PlantLine PlantLineFault
-script_due (Err why) call = Err why
-script_due (Ok due) call = script_with due call
+abbrev pub guarded_with : DueTime → Result Condition PlantLineFault → Result ScriptAct PlantLineFault → Result PlantLine PlantLineFault
+guarded_with due (Err why) said = Err why
+guarded_with due (Ok guard) said = script_with due (Some guard) said
 
--- MS CALL
+-- CONDITION do ACT
+abbrev pub guarded_line : DueTime → Option (List ℕ × List ℕ) → Result PlantLine PlantLineFault
+guarded_line due (Some cut) = guarded_with due (condition_or_fault cut.0) (act_of cut.1)
+guarded_line due None = Err fault.NoDo
+
+abbrev pub when_text : DueTime → List ℕ → Result PlantLine PlantLineFault
+when_text due rest = guarded_line due (cut_at (codes " do ") rest)
+
+abbrev pub unguarded : DueTime → List ℕ → (rest : List ℕ) → Result PlantLine PlantLineFault
+unguarded due text rest = script_with due None (act_of text)
+
+-- [when CONDITION do] ACT
+abbrev pub script_due_at : DueTime → List ℕ → Result PlantLine PlantLineFault
+script_due_at due text = meaning ((codes "when", when_text due) ∷ []) (unguarded due text) (first_word text) (behind_word text)
+
+abbrev pub script_due : Result DueTime PlantLineFault → List ℕ → Result PlantLine PlantLineFault
+script_due (Err why) text = Err why
+script_due (Ok due) text = script_due_at due text
+
+-- MS ACT
 abbrev pub at_line : List ℕ → Result PlantLine PlantLineFault
-at_line rest = script_due (at_of (first_word rest)) (plant_call_of (behind_word rest))
+at_line rest = script_due (at_of (first_word rest)) (behind_word rest)
 
 abbrev pub every_line : List ℕ → Result PlantLine PlantLineFault
-every_line rest = script_due (every_of (first_word rest)) (plant_call_of (behind_word rest))
+every_line rest = script_due (every_of (first_word rest)) (behind_word rest)
+
+-- a line that waits for its condition from the beginning on
+abbrev pub when_line : List ℕ → Result PlantLine PlantLineFault
+when_line rest = when_text (At 0) rest
 
 -- what the words of the file mean, each with what is behind it
 abbrev pub line_meanings : Meanings (List ℕ → Result PlantLine PlantLineFault)
@@ -121,6 +135,7 @@ line_meanings =
     ∷ (codes "seed", λ rest. made (λ seed. line.Fault (setting.Seed seed)) (seed_of rest))
     ∷ (codes "at", at_line)
     ∷ (codes "every", every_line)
+    ∷ (codes "when", when_line)
     ∷ (codes "seconds", λ rest. made line.Seconds (seconds_of rest))
     ∷ (codes "record", λ rest. made line.Record (folder_of rest))
     ∷ []

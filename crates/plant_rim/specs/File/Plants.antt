@@ -14,7 +14,7 @@ use Rattle.plant_rim.specs.declared.file.line.PlantLine.TheVariants as line
 use Rattle.plant_rim.specs.declared.file.plant.FaultOptions.{FaultOptions}
 use Rattle.plant_rim.specs.declared.file.plant.PlantFile.{PlantFile}
 use Rattle.plant_rim.specs.declared.file.plant.PlantDevice.{PlantDevice}
-use Rattle.plant_rim.specs.File.Lines.{made}
+use Rattle.plant_rim.specs.File.Made.{made}
 
 -- FAULTS ON PURPOSE
 

@@ -5,7 +5,11 @@ use Rattle.plant_rim.specs.declared.file.faults.PlantLineFault.TheVariants as fa
 
 abbrev pub sentence_of_context : PlantLineFault → List ℕ
 sentence_of_context fault.BadTime = codes "a time is a number of milliseconds up to 4294967295, and behind every it is not 0"
-sentence_of_context fault.NoCall = codes "a call is write, read, mode, start, stop, cut, pause, restart or send, and the words behind it"
+sentence_of_context fault.NoCall = codes "a call is write, read, mode, start, stop, cut, pause, restart or send, and the words behind it; else it is expect, fail or pass"
+sentence_of_context fault.BadCondition = codes "a condition is output POINT = HEX, image SLOT = HEX, slot N and idle, opening, established, timed-out or closing, or owner POINT and none, lost, run, idle or of NODE"
+sentence_of_context fault.NoDo = codes "behind when is a condition, and do, and what is done"
+sentence_of_context fault.NoScriptLine = codes "a line of a script begins with at, every or when"
+sentence_of_context fault.BadText = codes "behind fail is a text of 1 to 200 bytes without control characters"
 sentence_of_context fault.BeforeDevice = codes "no device is before it"
 sentence_of_context fault.TooManyDevices = codes "a plant has at most 127 devices"
 sentence_of_context fault.SameName = codes "an earlier device has this name"
@@ -17,7 +21,7 @@ sentence_of_context other = codes "a plant has at least one device"
 -- what is wrong, as a sentence
 abbrev pub sentence_of : PlantLineFault → List ℕ
 sentence_of fault.NotText = codes "it has bytes that are no UTF-8"
-sentence_of fault.UnknownWord = codes "a line begins with device, lose, repeat, reorder, delay, seed, at, every, seconds or record"
+sentence_of fault.UnknownWord = codes "a line begins with device, lose, repeat, reorder, delay, seed, at, every, when, seconds or record"
 sentence_of fault.BadName = codes "a name has 1 to 64 letters, digits, - and _"
 sentence_of fault.NoProfile = codes "the path of the device's profile is missing"
 sentence_of fault.BadAddress = codes "an address is four numbers below 256 with dots between them"

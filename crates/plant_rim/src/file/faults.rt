@@ -32,6 +32,14 @@ pub enum PlantLineFault {
     BadTime,
     /// What follows the time is no call.
     NoCall,
+    /// What is expected, or what a line waits for, is no condition.
+    BadCondition,
+    /// Nothing is to be done where the condition holds.
+    NoDo,
+    /// The text of a line that fails is none.
+    BadText,
+    /// It is no line of a script alone.
+    NoScriptLine,
     /// It says something of a device, and no device is before it.
     BeforeDevice,
     /// It is one device too many.
@@ -93,7 +101,7 @@ fn sentence_of(fault: PlantLineFault) -> &'static str
     match fault {
         PlantLineFault::NotText => "it has bytes that are no UTF-8",
         PlantLineFault::UnknownWord => {
-            "a line begins with device, lose, repeat, reorder, delay, seed, at, every, seconds or record"
+            "a line begins with device, lose, repeat, reorder, delay, seed, at, every, when, seconds or record"
         }
         PlantLineFault::BadName => "a name has 1 to 64 letters, digits, - and _",
         PlantLineFault::NoProfile => "the path of the device's profile is missing",
@@ -116,8 +124,15 @@ fn sentence_of_context(fault: PlantLineFault) -> &'static str
             "a time is a number of milliseconds up to 4294967295, and behind every it is not 0"
         }
         PlantLineFault::NoCall => {
-            "a call is write, read, mode, start, stop, cut, pause, restart or send, and the words behind it"
+            "a call is write, read, mode, start, stop, cut, pause, restart or send, and the words behind it; else it is expect, fail or pass"
         }
+        PlantLineFault::BadCondition => {
+            "a condition is output POINT = HEX, image SLOT = HEX, slot N and idle, opening, established, timed-out or closing, or owner POINT and none, lost, run, idle or of NODE"
+        }
+        PlantLineFault::NoDo => "behind when is a condition, and do, and what is done",
+        PlantLineFault::NoScriptLine => "a line of a script begins with at, every or when",
+        PlantLineFault::BadText =>
+            "behind fail is a text of 1 to 200 bytes without control characters",
         PlantLineFault::BeforeDevice => "no device is before it",
         PlantLineFault::TooManyDevices => "a plant has at most 127 devices",
         PlantLineFault::SameName => "an earlier device has this name",

@@ -1,19 +1,20 @@
 //! The lines of a plant's file, each as its value or what is wrong with it.
 
-ghost use Rattle.plant_rim.specs.File.Calls.{plant_call_of};
-ghost use Rattle.plant_rim.specs.File.Lines.{Reads, at_line, device_named, device_of, every_line, line_of, script_with, worded};
+ghost use Rattle.std.specs.Prelude.{None, codes};
+ghost use Rattle.plant_rim.specs.File.Texts.{cut_at};
+ghost use Rattle.plant_rim.specs.File.Acts.{act_of};
+ghost use Rattle.plant_rim.specs.File.Lines.{Reads, at_line, device_named, device_of, every_line, guarded_line, line_of, script_due_at, script_with, when_line, worded};
 
-use crate::file::calls::read_plant_call;
+use crate::file::acts::{condition_of, read_act};
 use crate::file::faults::{PlantLineFault, PlantReadFault};
 use crate::file::plant::PlantWord;
-use crate::file::texts::{is_name, is_skipped, split_word, trimmed};
+use crate::file::texts::{is_name, is_skipped, split_do, split_word, trimmed};
 use crate::file::values::{
     at_of, delay_of, every_of, percent_of, read_address, read_folder, seconds_of, seed_of, text_of,
 };
 use cip_types::Node;
 use station::{DueTime, ScriptLine};
 use std::alloc::Global;
-use trace_words::TextFault;
 
 /// What becomes of the datagrams that arrive at a device: one of the settings.
 #[derive(Clone, Copy, PartialEq, Eq)]
@@ -74,6 +75,7 @@ fn read_worded(alloc: Global, word: &str, rest: &str) -> Result<PlantLine, Plant
         "seed" => Ok(PlantLine::Fault(FaultSetting::Seed(seed_of(rest)?))),
         "at" => read_at(alloc, rest),
         "every" => read_every(alloc, rest),
+        "when" => read_when(alloc, rest),
         "seconds" => Ok(PlantLine::Seconds(seconds_of(rest)?)),
         "record" => Ok(PlantLine::Record(read_folder(alloc, rest)?)),
         _ => Err(PlantReadFault::Line(PlantLineFault::UnknownWord)),
@@ -132,13 +134,48 @@ fn read_every(alloc: Global, rest: &str) -> Result<PlantLine, PlantReadFault>
     read_script(alloc, due, call)
 }
 
-/// A line of a script with the step of this text.
-fn read_script(alloc: Global, due: DueTime, call: &str) -> Result<PlantLine, PlantReadFault>
-    ensures { Reads (script_with due (plant_call_of call.now)) result }
+/// What follows the word of a line that waits for a condition from the beginning on.
+fn read_when(alloc: Global, rest: &str) -> Result<PlantLine, PlantReadFault>
+    ensures { Reads (when_line rest.now) result }
 {
-    match read_plant_call(alloc, call.as_bytes()) {
-        Ok(step) => Ok(PlantLine::Script(ScriptLine { due, step })),
-        Err(TextFault::Bad) => Err(PlantReadFault::Line(PlantLineFault::NoCall)),
-        Err(TextFault::OutOfMemory) => Err(PlantReadFault::OutOfMemory),
+    read_guarded(alloc, DueTime::At(0), rest)
+}
+
+/// A line of a script that is due so: it waits for a condition, or does something at once.
+fn read_script(alloc: Global, due: DueTime, call: &str) -> Result<PlantLine, PlantReadFault>
+    ensures { Reads (script_due_at due call.now) result }
+{
+    let (word, rest) = split_word(call);
+    match word {
+        "when" => read_guarded(alloc, due, rest),
+        _ => read_unguarded(alloc, due, call),
     }
+}
+
+/// A line of a script that is due so, and does this.
+fn read_unguarded(alloc: Global, due: DueTime, text: &str) -> Result<PlantLine, PlantReadFault>
+    ensures { Reads (script_with due None (act_of text.now)) result }
+{
+    let act = read_act(alloc, text)?;
+    Ok(PlantLine::Script(ScriptLine {
+        due,
+        guard: None,
+        act,
+    }))
+}
+
+/// A line of a script that is due so, and then waits for a condition: CONDITION do ACT.
+fn read_guarded(alloc: Global, due: DueTime, rest: &str) -> Result<PlantLine, PlantReadFault>
+    ensures { Reads (guarded_line due (cut_at (codes " do ") rest.now)) result }
+{
+    let Some((condition, text)) = split_do(rest) else {
+        return Err(PlantReadFault::Line(PlantLineFault::NoDo));
+    };
+    let guard = condition_of(alloc, condition)?;
+    let act = read_act(alloc, text)?;
+    Ok(PlantLine::Script(ScriptLine {
+        due,
+        guard: Some(guard),
+        act,
+    }))
 }

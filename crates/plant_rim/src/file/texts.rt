@@ -1,8 +1,8 @@
 //! The text of a line: what is left of it without the blanks around it, and its first word.
 
-ghost use Rattle.std.specs.Prelude.{◌≡◌};
+ghost use Rattle.std.specs.Prelude.{◌≡◌, codes};
 ghost use Rattle.std.specs.List.{list_all};
-ghost use Rattle.plant_rim.specs.File.Texts.{behind_word, first_word, is_name, is_name_byte, is_skipped, trimmed};
+ghost use Rattle.plant_rim.specs.File.Texts.{behind_word, cut_at, first_word, is_name, is_name_byte, is_skipped, trimmed, view_cut};
 
 /// The longest name of a device.
 const LONGEST_DEVICE_NAME: usize = 64;
@@ -33,6 +33,13 @@ pub fn split_word(text: &str) -> (&str, &str)
         Some((word, rest)) => (word, rest),
         None => (text, ""),
     }
+}
+
+/// What is before the first ` do ` of a text, and what is behind it; None if there is none.
+pub fn split_do(text: &str) -> Option<(&str, &str)>
+    ensures { view_cut result ≡ cut_at (codes " do ") text.now }
+{
+    text.split_once(" do ")
 }
 
 /// Whether a word is a name: letters, digits, - and _.

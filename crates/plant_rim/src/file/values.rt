@@ -2,7 +2,8 @@
 
 ghost use Rattle.std.specs.Prelude.{◌≡◌};
 ghost use Rattle.trace_words.specs.Reader.{Takes, unread_words};
-ghost use Rattle.plant_rim.specs.File.Lines.{Reads, address_of, address_reader, at_of, delay_of, every_of, folder_of, not_zero, percent_of, seconds_of, seed_of, text_of, up_to, view_text};
+ghost use Rattle.plant_rim.specs.File.Lines.{Reads, address_of, address_reader, at_of, delay_of, every_of, folder_of, not_zero, percent_of, seconds_of, seed_of, text_of, view_text};
+ghost use Rattle.plant_rim.specs.File.Made.{up_to, within_of};
 
 use crate::file::faults::{PlantLineFault, PlantReadFault};
 use crate::file::plant::PlantWord;
@@ -98,6 +99,16 @@ pub fn every_of(word: &str) -> Result<DueTime, PlantLineFault>
 {
     match up_to(LAST_MS, word).and_then(not_zero) {
         Some(ms) => Ok(DueTime::Every(ms as u32)),
+        None => Err(PlantLineFault::BadTime),
+    }
+}
+
+/// The time within which a condition is expected.
+pub fn within_of(word: &str) -> Result<u32, PlantLineFault>
+    ensures { result ≡ within_of word.now }
+{
+    match up_to(LAST_MS, word) {
+        Some(ms) => Ok(ms as u32),
         None => Err(PlantLineFault::BadTime),
     }
 }

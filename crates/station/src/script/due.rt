@@ -71,7 +71,7 @@ pub fn next_due(lines: &[ScriptLine], now_ms: u64) -> Option<u64>
 }
 
 /// The earlier one of two times, of which each may be none.
-fn earlier(one: Option<u64>, other: Option<u64>) -> Option<u64>
+pub(crate) fn earlier(one: Option<u64>, other: Option<u64>) -> Option<u64>
     ensures { result ≡ earlier one other }
 {
     match (one, other) {

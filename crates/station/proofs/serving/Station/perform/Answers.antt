@@ -34,3 +34,9 @@ returns-in-End-clause-recorded g c = at_rest (g.W.RecordSink.contents) (g.P.Port
 
 pub returns-in-End-clause-done : goal.returns-in-End-clause-done
 returns-in-End-clause-done g c = always _ _ (done_as (g.W.RecordSink.contents) (g.P.Port.is_scripted) (g.C.Clock.is_scripted) (g.C.Clock.coming) (g.P.Port.tape) (g.P.Port.failed) (g.D.Device.table) (Rest ∷ []) _ _ _ (ap (tasks_of (number_of c.args.self.now)) c.in-End.is) (rested (g.W.RecordSink.contents) (g.P.Port.is_scripted) (g.C.Clock.is_scripted) (g.C.Clock.coming) (g.P.Port.tape) (g.P.Port.failed) (g.D.Device.table) _ _ c.report_end.ensures))
+
+pub returns-in-Say-clause-recorded : goal.returns-in-Say-clause-recorded
+returns-in-Say-clause-recorded g c = at_rest (g.W.RecordSink.contents) (g.P.Port.is_scripted) (g.C.Clock.is_scripted) (g.C.Clock.coming) (g.P.Port.tape) (g.P.Port.failed) (g.D.Device.table) _ _ c.print_said.ensures
+
+pub returns-in-Say-clause-done : goal.returns-in-Say-clause-done
+returns-in-Say-clause-done g c = always _ _ (done_as (g.W.RecordSink.contents) (g.P.Port.is_scripted) (g.C.Clock.is_scripted) (g.C.Clock.coming) (g.P.Port.tape) (g.P.Port.failed) (g.D.Device.table) (Rest ∷ []) _ _ _ (ap (tasks_of (number_of c.args.self.now)) c.in-Say.is) (rested (g.W.RecordSink.contents) (g.P.Port.is_scripted) (g.C.Clock.is_scripted) (g.C.Clock.coming) (g.P.Port.tape) (g.P.Port.failed) (g.D.Device.table) _ _ c.print_said.ensures))
