@@ -1,5 +1,5 @@
 -- Class 3 connections and requests to objects of the maker's own at a small adapter, byte for byte, by hand.
-use Rattle.std.proofs.Common.{◌≡◌, ℕ, true, List, [], ◌∷◌, map, replicate, Option, Some, None, Result, Ok, Err, refl}
+use Rattle.std.proofs.Common.{◌≡◌, ◌+◌, ℕ, true, List, [], ◌∷◌, map, replicate, Option, Some, None, Result, Ok, Err, refl}
 use Rattle.std.specs.List.{range_with_len}
 use Rattle.cip_types.specs.declared.names.Node.{Node}
 use Rattle.cip_types.specs.declared.names.Triad.{Triad}

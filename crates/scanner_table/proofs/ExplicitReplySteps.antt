@@ -3,7 +3,9 @@ use Rattle.std.proofs.Common.{◌≡◌, ℕ, ◌+◌, ◌==◌, nat_lt, Bool, t
 use Rattle.std.specs.List.{list_any}
 use Rattle.base_lemmas.specs.Booleans.{either}
 use Rattle.base_lemmas.specs.Lists.{found_passes}
+use Rattle.cip_types.specs.declared.ids.IdBlock.{IdBlock}
 use Rattle.cip_types.specs.declared.names.Node.{Node}
+use Rattle.cip_types.specs.Ids.{may_take}
 use Rattle.cip_datagram.specs.declared.datagram.DatagramFault.{DatagramFault}
 use Rattle.cip_datagram.specs.Datagram.{DatagramFields}
 use Rattle.cip_datagram.specs.Reading.{datagram_reading}
@@ -12,10 +14,12 @@ use Rattle.cip_encap.specs.Message.{MessageFields}
 use Rattle.cip_encap.specs.Reading.{message_reading}
 use Rattle.cip_events.specs.declared.event.Delivery.TheVariants.{Applied, Duplicate, Old, WrongSize}
 use Rattle.cip_events.specs.declared.event.Event.{Event}
-use Rattle.cip_events.specs.declared.event.Event.TheVariants.{StreamOpened, Frame, StreamCut, Datagram, Write, Read, Tick, Mode, Start, Stop, Explicit}
+use Rattle.cip_events.specs.declared.event.Event.TheVariants.{StreamOpened, Frame, StreamCut, Datagram, Write, Read, Tick, Mode, Start, Stop, Explicit, Ids}
 use Rattle.cip_events.specs.declared.event.StepFault.{StepFault}
 use Rattle.cip_events.specs.declared.event.StepFault.TheVariants as fault
 use Rattle.cip_events.specs.declared.event.Unanswered.{Unanswered}
+use Rattle.cip_events.specs.declared.event.Verdict.TheVariants.{Done}
+use Rattle.cip_events.specs.Answers.{plain_answer}
 use Rattle.cip_events.specs.Clock.{longest_tick, clock_end}
 use Rattle.cip_productions.specs.Acceptance.{is_duplicate}
 use Rattle.cip_productions.specs.Kinds.{is_owner}
@@ -38,7 +42,7 @@ use Rattle.scanner_table.specs.Points.{output_written, write_length, write_at, w
 use Rattle.scanner_table.specs.Ticks.{clocked_table, moved_on, ticked, tick}
 use Rattle.scanner_table.specs.Explicit.{awaits, connects_to, has_explicit_length, is_barred, explicit_sent, explicit_within, explicit_sized, explicit_request, explicit_reply, explicit_answered}
 use Rattle.scanner_table.specs.Encapsulation.{registering_on, registered, ignored, ends_session, session_renewed, is_awaiting, replied, replied_to, unserved_at, reported, message_answer, frame_answer, frame_of, frame, stream_opened, cut_of, stream_cut}
-use Rattle.scanner_table.specs.Step.{scanner_step}
+use Rattle.scanner_table.specs.Step.{scanner_step, taken_table, take_ids}
 use Rattle.scanner_table.specs.ExplicitReplies.{is_reply, RepliesToPending, RepliesAreToPending}
 
 -- ---- events that bring no reply
@@ -132,6 +136,10 @@ stop_of_none (Ok effect) = refl
 stop_none : (t : ScannerTable) (number : ℕ) → SaysNoReply (stop t number)
 unfolding stop
 stop_none t number = stop_of_none (stopped_at t (slot_at t number))
+
+ids_none : (t : ScannerTable) (block : IdBlock) → SaysNoReply (take_ids t block)
+unfolding take_ids
+ids_none t block = either SaysNoReply (may_take t.ids block) (Ok (plain_answer Done, taken_table t block)) (Err fault.NotAllowedNow) refl tt
 
 within_none : (t : ScannerTable) (number : ℕ) (bytes : List ℕ) (session : Option Session) → SaysNoReply (explicit_within t number bytes session)
 within_none t number bytes None = tt
@@ -235,6 +243,7 @@ step_replies t (Mode run) = none_replies t (Mode run) (scanner_step t (Mode run)
 step_replies t (Start slot) = none_replies t (Start slot) (scanner_step t (Start slot)) (start_none t slot)
 step_replies t (Stop slot) = none_replies t (Stop slot) (scanner_step t (Stop slot)) (stop_none t slot)
 step_replies t (Explicit target number bytes) = none_replies t (Explicit target number bytes) (scanner_step t (Explicit target number bytes)) (explicit_none t target number bytes)
+step_replies t (Ids block) = none_replies t (Ids block) (scanner_step t (Ids block)) (ids_none t block)
 step_replies t other = tt
 
 pub replies_pending : RepliesAreToPending
