@@ -21,3 +21,6 @@ seven s0 s1 s2 s3 s4 s5 s6 s7 a b c d e f g text e1 e2 e3 e4 e5 e6 e7 is = two s
 
 pub eight : (s0 s1 s2 s3 s4 s5 s6 s7 s8 a b c d e f g h text : List ℕ) → s1 ≡ s0 ++ a → s2 ≡ s1 ++ b → s3 ≡ s2 ++ c → s4 ≡ s3 ++ d → s5 ≡ s4 ++ e → s6 ≡ s5 ++ f → s7 ≡ s6 ++ g → s8 ≡ s7 ++ h → a ++ (b ++ (c ++ (d ++ (e ++ (f ++ (g ++ h)))))) ≡ text → s8 ≡ s0 ++ text
 eight s0 s1 s2 s3 s4 s5 s6 s7 s8 a b c d e f g h text e1 e2 e3 e4 e5 e6 e7 e8 is = two s0 s1 s8 a (b ++ (c ++ (d ++ (e ++ (f ++ (g ++ h)))))) text e1 (seven s1 s2 s3 s4 s5 s6 s7 s8 b c d e f g h (b ++ (c ++ (d ++ (e ++ (f ++ (g ++ h)))))) e2 e3 e4 e5 e6 e7 e8 refl) is
+
+pub nine : (s0 s1 s2 s3 s4 s5 s6 s7 s8 s9 a b c d e f g h i text : List ℕ) → s1 ≡ s0 ++ a → s2 ≡ s1 ++ b → s3 ≡ s2 ++ c → s4 ≡ s3 ++ d → s5 ≡ s4 ++ e → s6 ≡ s5 ++ f → s7 ≡ s6 ++ g → s8 ≡ s7 ++ h → s9 ≡ s8 ++ i → a ++ (b ++ (c ++ (d ++ (e ++ (f ++ (g ++ (h ++ i))))))) ≡ text → s9 ≡ s0 ++ text
+nine s0 s1 s2 s3 s4 s5 s6 s7 s8 s9 a b c d e f g h i text e1 e2 e3 e4 e5 e6 e7 e8 e9 is = two s0 s1 s9 a (b ++ (c ++ (d ++ (e ++ (f ++ (g ++ (h ++ i))))))) text e1 (eight s1 s2 s3 s4 s5 s6 s7 s8 s9 b c d e f g h i (b ++ (c ++ (d ++ (e ++ (f ++ (g ++ (h ++ i))))))) e2 e3 e4 e5 e6 e7 e8 e9 refl) is
