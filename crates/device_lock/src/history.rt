@@ -6,7 +6,7 @@ ghost use Rattle.cip_tables.specs.Run.{outcome_of, outcomes_of, table_after, tab
 ghost use Rattle.device_lock.specs.Histories.{history_of, place_in, Follow};
 
 use crate::segment::Segment;
-use cip_tables::{Config, Device, Event, NewFault, Outcome, StepFault};
+use cip_tables::{Config, Device, Event, NewFault, Outcome, StepFault, TableCopy};
 use cip_types::OutOfMemory;
 use std::alloc::Global;
 use std::marker::Model;
@@ -105,6 +105,17 @@ impl History {
             fresh::<D>(alloc, &self.config)?,
             self.events.as_slice(),
         )
+    }
+
+    /// The table of the device behind its last event: a fresh device is run over them.
+    pub fn last_table<D: Device + Drop>(&self, alloc: Global) -> Result<TableCopy, OutOfMemory>
+        requires valid { config_fault self.now.config ≡ None }
+        requires accepts { D.accepts self.now.config ≡ true }
+        ensures { IfOk result (λ table. table ≡ table_after (opening_table self.now.config) self.now.events) }
+    {
+        let mut device = fresh::<D>(alloc, &self.config)?;
+        replay(&mut device, self.events.as_slice())?;
+        device.copy()
     }
 
     /// The place of the event that has a segment and an index in a receipt; None where there is no such segment,

@@ -11,3 +11,4 @@ pub mod Rounds
 pub mod Counting
 pub mod SearchSamples
 pub mod WaySamples
+pub mod SharedSamples

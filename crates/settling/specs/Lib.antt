@@ -1,3 +1,4 @@
 pub mod Receipts
 pub mod Settlings
 pub mod Search
+pub mod SharedIds

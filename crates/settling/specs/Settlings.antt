@@ -1,15 +1,17 @@
 -- What settling answers: a schedule for histories and receipts, or why there is none.
-use Rattle.std.specs.Prelude.{◌≡◌, ℕ, List, [], ◌∷◌, slice_get, slice_index, Some, Ok}
+use Rattle.std.specs.Prelude.{◌≡◌, ℕ, List, [], ◌∷◌, slice_get, slice_index, None, Some, Ok}
 use Rattle.device_lock.specs.declared.receipt.Receipt.{Receipt}
 use Rattle.device_lock.specs.Histories.{HistoryValue}
 use Rattle.segment_world.specs.declared.act.Act.{Act}
+use Rattle.segment_world.specs.Configs.{world_fault}
 use Rattle.segment_world.specs.Story.{Story}
-use Rattle.settling.specs.Search.Histories.{bytes_of, events_of_all, start_of}
+use Rattle.settling.specs.Search.Histories.{bytes_of, configs_of, events_of_all, start_of}
 use Rattle.settling.specs.Search.Schedules.{Settles, outcomes_of}
 use Rattle.settling.specs.Search.Searches.{LeftOver, OpensFirst}
 use Rattle.settling.specs.declared.settled.Unsettled.{Unsettled}
 use Rattle.settling.specs.declared.settled.Unsettled.TheVariants.{Foreign, Missing, Uncaused, OutOfMemory}
 use Rattle.settling.specs.Receipts.{AllGood, Covered, IsForeign, IsMissing, place_of}
+use Rattle.settling.specs.SharedIds.{ShareNoIds}
 
 -- A SCHEDULE FOR HISTORIES AND RECEIPTS
 
@@ -31,6 +33,12 @@ pub record SettlesAll (hs : List HistoryValue) (rs : List Receipt) (acts : List 
   pub stand : AllStand hs settled.story rs
   pub once : AllGood hs [] rs
   pub covered : Covered hs rs
+
+-- They settle so, a world can be made of the histories' configurations, and no two devices have a connection id in common at its end.
+pub record SettlesApart (hs : List HistoryValue) (rs : List Receipt) (acts : List Act) : Type 0 where
+  pub valid : world_fault (configs_of hs) ≡ None
+  pub apart : ShareNoIds hs
+  pub settles : SettlesAll hs rs acts
 
 -- All receipts are good, and each event has one. The events cannot be placed, and of the devices with events to come
 -- this is the one with the lowest byte.

@@ -7,6 +7,8 @@ mod marks;
 mod receipts;
 mod search;
 mod settled;
+mod shared_ids;
 
 pub use search::{Unplaced, byte_at, byte_of, check_configs, find_schedule, lower_of};
 pub use settled::{Settled, Unsettled, settle};
+pub use shared_ids::find_shared_ids;

@@ -62,7 +62,12 @@ fn push_at(
 {
     match report {
         Some(report) => {
-            push_connection(out, &counted_of(at.ms, connections, &report), report.peer, at)
+            push_connection(
+                out,
+                &counted_of(at.ms, connections, &report),
+                report.peer,
+                at,
+            )
         }
         None => Ok(()),
     }
