@@ -170,6 +170,7 @@ uint32_t eip_c_respond(eip_device *device, uint64_t number, uint8_t status, cons
                        size_t room, size_t *size);
 uint32_t eip_c_counters(eip_device *device, const uint8_t *bytes, size_t len, uint8_t *out, size_t room, size_t *size);
 uint32_t eip_c_ids(eip_device *device, uint32_t first, uint32_t count, uint8_t *out, size_t room, size_t *size);
+uint32_t eip_c_ids_left(eip_device *device);
 uint32_t eip_c_write(eip_device *device, uint32_t point, const uint8_t *bytes, size_t len, uint8_t *out, size_t room,
                      size_t *size);
 uint32_t eip_c_read(eip_device *device, uint32_t point, uint8_t *out, size_t room, size_t *size);
@@ -425,13 +426,23 @@ static inline uint32_t eip_counters(eip_device *device, const uint8_t *bytes, si
  *
  * A device gives connection ids in order: those that begin with its incarnation, or those of a line `ids FROM COUNT` of its profile.
  * One that is to give no id twice, however often it starts, keeps on its disk from where on no id was ever given, and takes its ids
- * from there. */
+ * from there: a block is reserved on the disk before the device gets it, and a further one in time before its ids have ended. */
 
 /* The device gets a further block of connection ids, to give when those that it has are used up: the first, and how many they
- * are. EIP_NOT_ALLOWED_NOW if the device has one of them already, the first is 0, or the last is above 2^32 - 1. */
+ * are. EIP_NOT_ALLOWED_NOW if the device has one of them already, the first is 0, the last is above 2^32 - 1, or the device holds 64
+ * blocks. A block that begins where the last one ends continues that one. */
 static inline uint32_t eip_ids(eip_device *device, uint32_t first, uint32_t count, uint8_t *out, size_t room, size_t *size)
 {
     EIP_CALL(out, room, eip_c_ids(device, first, count, out, room, size));
+}
+
+/* Answers at *left how many connection ids the device has left. Takes no memory, and changes nothing. EIP_DONE or EIP_NULL. */
+static inline uint32_t eip_ids_left(eip_device *device, uint32_t *left)
+{
+    if (!device || !device->at || !left)
+        return EIP_NULL;
+    *left = eip_c_ids_left(device);
+    return EIP_DONE;
 }
 
 /* INQUIRIES

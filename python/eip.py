@@ -225,7 +225,7 @@ class ProfileFault(enum.IntEnum):
 
 
 _PROFILE_SENTENCES = {
-    ProfileFault.INCARNATION: "the incarnation is 0",
+    ProfileFault.INCARNATION: "the incarnation is 0, or the ids are out of range",
     ProfileFault.ADDRESS: "the address or its mask is none",
     ProfileFault.POINTS: "no input, or more than 8 inputs or outputs",
     ProfileFault.SAME_INSTANCE: "two points have one instance",
@@ -691,6 +691,7 @@ _FUNCTIONS: dict[str, list[Any]] = {
     "respond": [_AT, ctypes.c_uint64, ctypes.c_uint8, *_BYTES, *_OUT],
     "counters": [_AT, *_BYTES, *_OUT],
     "ids": [_AT, _U32, _U32, *_OUT],
+    "ids_left": [_AT],
     "write": [_AT, _U32, *_BYTES, *_OUT],
     "read": [_AT, _U32, *_OUT],
     "tick": [_AT, _U32, *_OUT],
@@ -794,7 +795,7 @@ class Device:
         first = next(line.split() for line in text.split(b"\n") if line and not line.startswith(b"#"))
         self.is_scanner: bool = first[0] == b"scanner"
         self.incarnation: int = int(first[1])
-        """The incarnation of its profile: the first byte of each connection id that it gives."""
+        """The incarnation of its profile: the first byte of each connection id that it gives, unless the profile states its ids."""
         self.node: str = first[2].decode()
         """The device's own address, as its profile has it."""
 
@@ -921,10 +922,19 @@ class Device:
     def ids(self, first: int, count: int) -> Answer:
         """Gives the device a further block of connection ids, for when those that it has are used up.
 
-        Refused if the device has one of them already, if the first is 0, and if the last is above 2**32 - 1.
+        Refused if the device has one of them already, if the first is 0, if the last is above 2**32 - 1, and if the device holds 64
+        blocks. A block that begins where the last one ends continues that one.
         """
         first, count = _number(first, 0xFFFFFFFF, "first id"), _number(count, 0xFFFFFFFF, "number of ids")
         return self._event(self._calls.eip_c_ids, first, count)
+
+    def ids_left(self) -> int:
+        """How many connection ids the device has left."""
+        with self._lock:
+            if not self._is_open:
+                raise DeviceClosed
+            left: int = self._calls.eip_c_ids_left(self._at)
+            return left
 
     # Points
 

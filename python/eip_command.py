@@ -96,6 +96,20 @@ def with_incarnation(profile: str, incarnation: int) -> str:
     return "\n".join(lines)
 
 
+def with_unused_ids(profile: str, left: int) -> str:
+    """A profile for the next life of a device that has so many connection ids left.
+
+    If the profile states its ids, it states those that are left, but never the first one again: so no id is given twice.
+    """
+    lines = profile.split("\n")
+    for place, line in enumerate(lines):
+        if line.startswith("ids "):
+            first, count = map(int, line.split()[1:])
+            end, count = first + count, min(left, max(count - 1, 0))
+            lines[place] = f"ids {first} 0" if end - count == 2**32 else f"ids {end - count} {count}"
+    return "\n".join(lines)
+
+
 def words_of(profile: str, kind: str) -> list[list[str]]:
     """The words of the lines of a profile that begin with a word."""
     return [line.split() for line in profile.split("\n") if line.startswith(f"{kind} ")]
@@ -306,8 +320,9 @@ class Served:
             self.put(outcome_lines(0, answer)[0].partition(" ")[2])
 
     def restart(self) -> None:
-        """The next life begins, with the next incarnation."""
+        """The next life begins, with the next incarnation, and with ids that no life has given."""
         incarnation = self.member.device.incarnation % 255 + 1
+        self.profile = with_unused_ids(self.profile, self.member.ids_left())
         self.member.restart(Device(with_incarnation(self.profile, incarnation)))
         self.put(f"life {self.member.life}, incarnation {incarnation}")
 

@@ -81,6 +81,7 @@ class Member:
     explicit = _event(Device.explicit)
     respond = _event(Device.respond)
     counters = _event(Device.counters)
+    ids = _event(Device.ids)
     write = _event(Device.write)
     mode = _event(Device.mode)
     start = _event(Device.start)
@@ -90,6 +91,7 @@ class Member:
     connection = _state(Device.connection)
     slot = _state(Device.slot)
     next_wake = _state(Device.next_wake)
+    ids_left = _state(Device.ids_left)
 
     def __init__(self, plant: Plant, device: Device, name: str) -> None:
         self.plant, self.device, self.name = plant, device, name

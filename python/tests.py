@@ -111,6 +111,22 @@ class Devices(unittest.TestCase):
         self.assertEqual(device.frame(0, UNREGISTER).notices, (StreamNotice(NoticeKind.STREAM_CLOSED, 0),))
         self.refused(Status.NOT_ALLOWED_NOW, device.cut, 0)
 
+    def test_ids_come_in_blocks(self):
+        """A device gives the ids that its profile states, then those of a further block, and then none."""
+        device = Device(ADAPTER.replace("heartbeat", "ids 4000 1\nheartbeat"))
+        self.addCleanup(device.close)
+        self.assertEqual(device.ids_left(), 1)
+        self.assertEqual(device.request(OWNER, OPEN).notices[0].o_t_id, 4000)
+        # (Forward_Close, and an opening that finds no id: general status 1, extended status 0113)
+        device.request(OWNER, bytes.fromhex("4e02200624010a0e0100341278563412040020042497" "2c962c64"))
+        self.assertEqual(device.request(OWNER, OPEN).replies[0].data[:6], bytes.fromhex("d40001011301"))
+        for first, count in (4000, 1), (3999, 2), (0, 1), (2**32 - 1, 2):
+            self.refused(Status.NOT_ALLOWED_NOW, device.ids, first, count)
+        self.assertEqual(device.ids_left(), 0)
+        self.assertTrue(device.ids(5000, 2).is_plain)
+        self.assertEqual(device.request(OWNER, OPEN).notices[0].o_t_id, 5000)
+        self.assertEqual(device.ids_left(), 1)
+
     def test_refused_events_change_nothing(self):
         device = self.opened()
         kept = device.answer()
@@ -1101,7 +1117,7 @@ class Sentences(unittest.TestCase):
             self.assertEqual(str(refused.exception), text)
         with self.assertRaises(BadProfile) as bad:
             Device(ADAPTER.replace("adapter 16", "adapter 0"))
-        self.assertEqual(str(bad.exception), "bad profile 1: the incarnation is 0")
+        self.assertEqual(str(bad.exception), "bad profile 1: the incarnation is 0, or the ids are out of range")
         with self.assertRaises(Refused) as refused:
             inquiry(Identity("1.2.3.4", 1, "a" * 33), bytes(24))
         self.assertEqual(str(refused.exception), "the name has 33 bytes, and a name has 0 to 32")
@@ -1338,7 +1354,7 @@ class Commands(unittest.TestCase):
             (3, f"{bad_script}: line 2: {time}", ["test", self.ADAPTER_FILE, bad_script]),
             (3, f"{no_text}: it has bytes that are no UTF-8", ["test", self.ADAPTER_FILE, no_text]),
             (3, f"{bad_line}: bad line 1", ["test", bad_line, passes]),
-            (3, f"{bad_profile}: bad profile 1: the incarnation is 0", ["test", bad_profile, passes]),
+            (3, f"{bad_profile}: bad profile 1: the incarnation is 0, or the ids are out of range", ["test", bad_profile, passes]),
             (3, f"{events} has events behind the profile", ["test", events, passes]),
             (3, "no script judges: a test has a line with expect, fail or pass", ["test", self.ADAPTER_FILE, silent]),
             (3, f"{self.ADAPTER_FILE}: two devices have the address 127.0.0.10", ["test", *[self.ADAPTER_FILE, passes] * 2]),
@@ -1367,6 +1383,19 @@ class Commands(unittest.TestCase):
 
     def test_another_incarnation_leaves_the_rest(self):
         self.assertEqual(eip_command.with_incarnation("# a\n" + ADAPTER, 99), "# a\n" + ADAPTER.replace("adapter 16", "adapter 99"))
+
+    def test_the_ids_that_are_left_are_of_the_next_life(self):
+        """Those that the profile states, but for the first one; behind the last id of all there is none."""
+        def behind(ids, left):
+            return eip_command.with_unused_ids(f"adapter 16\nids {ids}\nheartbeat 152 153\n", left).split("\n")[1]
+
+        self.assertEqual(behind("100 50", 20), "ids 130 20")
+        self.assertEqual(behind("100 50", 50), "ids 101 49")
+        self.assertEqual(behind("100 50", 0), "ids 150 0")
+        self.assertEqual(behind("100 0", 0), "ids 100 0")
+        self.assertEqual(behind("4294967290 6", 4), "ids 4294967292 4")
+        self.assertEqual(behind("4294967290 6", 0), "ids 4294967290 0")
+        self.assertEqual(eip_command.with_unused_ids(ADAPTER, 3), ADAPTER)
 
     def test_what_is_served_is_printed_and_a_reset_begins_the_next_life(self):
         plant, lines = Plant(), []
@@ -1397,6 +1426,12 @@ class Commands(unittest.TestCase):
         plant.run_until(3)
         self.assertEqual(lines, ["at 0 output 150 00000000", "at 0 note reset 0", "at 0 life 2, incarnation 1"])
         self.assertEqual((member.life, member.device.incarnation, member.now_ms), (2, 1, 3))
+        # a life that gave none of its three ids leaves two of them
+        member, _ = served(described.replace("1.10", "1.11").replace("heartbeat", "ids 700 3\nheartbeat"))
+        member.request(OWNER, bytes.fromhex("05022001240100"))
+        plant.run_until(4)
+        notices = member.request(OWNER, OPEN).notices
+        self.assertEqual((member.life, notices[0].o_t_id, member.ids_left()), (2, 701, 1))
 
 
 class Documents(unittest.TestCase):

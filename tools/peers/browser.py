@@ -113,6 +113,7 @@ class Device:
 
     def __init__(self, options, maker):
         self.options, self.at, self.maker, self.sent, self.serial = options, (options.host, options.port), maker, collections.deque(), 0
+        self.given = set()  # the connection ids that it has given
         self.udp = socket.socket(socket.AF_INET, socket.SOCK_DGRAM)
         if options.own:
             self.udp.bind((options.own, 0))
@@ -268,6 +269,7 @@ class Device:
         o_t_id, t_o_got, triad_got, o_t_api, t_o_api, size, reserved = struct.unpack_from("<II8sIIBB", reply, 4)
         is_group = fields["cast"] == "multicast" and fields["kind"] != "class3"
         is_right = triad_got == triad and size == reserved == 0 and (is_group or t_o_got == t_o_id) and is_item(items, is_group)
+        self.given.add(o_t_id)
         return (o_t_id, t_o_got, triad, fields), f"00 {o_t_api} {t_o_api}" + ("" if is_right else f", with {reply.hex()} {items}")
 
     def connect(self, fields):
@@ -314,8 +316,8 @@ class Device:
             return str(fault)
 
     def restarted(self, type_):
-        """The reply to a reset, and what comes behind it: the stream ends, and the connection ids of the next life are others."""
-        before = self.class3[0] >> 24
+        """The reply to a reset, and what comes behind it: the stream ends, and no earlier life has given the connection ids of the next."""
+        before = set(self.given)
         words = self.served(forms.request(forms.RESET, forms.path_of(forms.IDENTITY, 1), type_))
         self.main.tcp.settimeout(self.options.patience)
         try:
@@ -324,7 +326,7 @@ class Device:
         except TimeoutError:
             return f"{words}, then the same life"
         self.begin()
-        return f"{words}, then " + ("a new life" if self.class3[0] >> 24 != before else "ids of the same life")
+        return f"{words}, then " + ("ids of an earlier life" if self.class3[0] in before else "a new life")
 
     def served_while(self, request, held):
         """The reply to a request while connections are open."""

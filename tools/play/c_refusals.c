@@ -102,6 +102,7 @@ static void check_refusals(eip_device *device)
     check(eip_request(device, 1, NULL, 1, out, sizeof out, &size) == EIP_NULL, "bytes NULL");
     check(eip_datagram(device, 1, four, 4, NULL) == EIP_NULL, "a delivery NULL");
     check(eip_next_wake(device, NULL) == EIP_NULL, "a time NULL");
+    check(eip_ids_left(device, NULL) == EIP_NULL, "ids left NULL");
     check(size == 77 && out[0] == 9 && out[63] == 9, "memory after refused calls");
 }
 
@@ -110,6 +111,19 @@ static void check_wake(eip_device *device)
 {
     uint32_t ms = 0;
     check(eip_next_wake(device, &ms) == EIP_DONE && ms == 60000, "the time without a tick");
+}
+
+/* A device has the ids of its incarnation, and those of each further block, once. */
+static void check_ids(eip_device *device)
+{
+    uint32_t left = 0;
+    uint8_t out[64];
+    size_t size;
+    check(eip_ids_left(device, &left) == EIP_DONE && left == 16777215, "the ids of an incarnation");
+    check(eip_ids(device, 4000000000u, 10, out, sizeof out, &size) == EIP_DONE, "a further block of ids");
+    check(eip_ids_left(device, &left) == EIP_DONE && left == 16777225, "the ids with a further block");
+    check(eip_ids(device, 4000000009u, 10, out, sizeof out, &size) == EIP_NOT_ALLOWED_NOW, "an id that the device has");
+    check(eip_ids_left(device, &left) == EIP_DONE && left == 16777225, "the ids behind a block that is refused");
 }
 
 /* A pointer NULL with a length is refused, however long; with the length 0 it is no bytes. */
@@ -255,12 +269,14 @@ int main(void)
     check(eip_new(&device, profile, strlen(profile), &number) == EIP_DONE && device.at, "a device");
     check_refusals(&device);
     check_wake(&device);
+    check_ids(&device);
     check_null(&device);
     check_in_use(&device);
     check_room(&device);
     eip_free(&device);
     check(device.at == NULL && eip_tick(&device, 1, out, sizeof out, &size) == EIP_NULL, "a device that was freed");
     check(eip_next_wake(&device, &ms) == EIP_NULL && ms == 77, "the time of a device that was freed");
+    check(eip_ids_left(&device, &ms) == EIP_NULL && ms == 77, "the ids of a device that was freed");
     eip_free(&device);
     return failed;
 }

@@ -19,6 +19,7 @@ ghost use Rattle.adapter_table.specs.Rates.{counted_at, has_opened_enough_at};
 ghost use Rattle.adapter_table.specs.Step.{adapter_table};
 ghost use Rattle.adapter_table.specs.Whole.{IsWhole};
 
+use adapter_table::laws::tables_are_whole;
 use adapter_table::{
     AdapterTable, DeviceCounters, NodeOpenings, Profile, Stream, counted_openings,
     has_opened_enough,
@@ -65,6 +66,8 @@ impl<T: ConnectionTable> AdapterState<T> {
         requires { profile_fault profile.now ≡ None }
         ensures { IfOk result (λ state. state ≡ adapter_table profile.now) }
     {
+        // The table of a fresh adapter is whole.
+        tables_are_whole();
         let assemblies = AssemblySet::new(alloc, profile)?;
         Ok(AdapterState {
             alloc,

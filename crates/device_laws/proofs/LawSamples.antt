@@ -1,9 +1,12 @@
 -- Samples of the definitions at a small scanner's tables, worked out by hand.
-use Rattle.std.proofs.Common.{◌≡◌, ◌≤◌, ◌⊎◌, inl, inr, ℕ, ◌+◌, ◌*◌, ◌^◌, true, false, List, [], ◌∷◌, Some, None, refl, ◌∙◌, ap, arith}
+use Rattle.std.proofs.Common.{◌≡◌, ◌≤◌, ◌⊎◌, inl, inr, ℕ, ◌+◌, ◌*◌, ◌^◌, true, false, List, [], ◌∷◌, Some, None, refl, sym, ◌∙◌, ap, arith}
 use Rattle.cip_types.specs.IdLaws.{extends_itself, incarnation_ids}
 use Rattle.cip_types.specs.declared.names.ConnId.{ConnId}
 use Rattle.cip_events.specs.declared.event.Event.TheVariants.{Request, Write, Tick, Start, Stop}
 use Rattle.cip_datagram.specs.Reading as datagrams
+use Rattle.cip_fwdopen.specs.Open.{OpenFields}
+use Rattle.cip_netparams.specs.Word.{is_message_trigger}
+use Rattle.cip_router.specs.Requests.{object, opening as opens}
 use Rattle.scanner_table.specs.declared.slot.SlotState.{SlotState}
 use Rattle.scanner_table.specs.declared.slot.SlotState.TheVariants.{Idle, Opening, Established, TimedOut}
 use Rattle.scanner_table.specs.declared.table.ScannerTable.{ScannerTable}
@@ -21,6 +24,7 @@ use Rattle.scanner_table.specs.Producers.{ProducesAsItself}
 use Rattle.scanner_table.specs.Waiting.{SlotWaits}
 use Rattle.device_laws.specs.ScannerDeadlines.{SlotIsAhead}
 use Rattle.device_laws.specs.Scratch.{data_left, zeros_left, output_left, last_image, last_output}
+use Rattle.device_laws.specs.Plain.{HasPlainService, IsPlainRequest}
 use Rattle.device_laws.specs.Newest.{Acceptance, accepted_at, acceptances, last_accepted, HasNewerNumber, HasOtherCount, StateRemembers, last_in, StateIsNumbered}
 use Rattle.device_laws.proofs.SmallTables.{target, owner, gatherer, profile, triad, blocks, own_id, opening, link, connection, first_slot, indexed, table, open_table, arrives}
 
@@ -33,6 +37,22 @@ refused_stays = refl
 two_ticks : (table_after (table Idle) (Tick 1 ∷ Tick 60001 ∷ Tick 9 ∷ [])).clock ≡ record { 0 = 610 }
 unfolding tick all_expired all_given_up explicit_timed_out ready_opened produced_table opened
 two_ticks = refl
+
+-- ---- services that are asked for
+
+-- a request to open a class 3 connection asks no object for the service of an opening, and is no plain request
+class3_is_requested : (request : OpenFields) → request.trigger ≡ 0xA3 → HasPlainService (opens false request) × (IsPlainRequest (opens false request) → ⊥)
+class3_is_requested request is = (tt, λ plain. absurd (let other : false ≡ true = sym plain ∙ ap is_message_trigger is in cc))
+
+-- an identity object is asked for the service of a Forward_Open, of a Large_Forward_Open, and for an attribute
+small_is_requested : HasPlainService (object 0x54 1 1 None []) → ⊥
+small_is_requested asks = absurd (let other : true ≡ false = asks.small in cc)
+
+large_is_requested : HasPlainService (object 0x5B 1 1 None []) → ⊥
+large_is_requested asks = absurd (let other : true ≡ false = asks.large in cc)
+
+attribute_is_requested : HasPlainService (object 0x0E 1 1 (Some 7) [])
+attribute_is_requested = record { small = refl; large = refl }
 
 -- ---- allocated numbers
 

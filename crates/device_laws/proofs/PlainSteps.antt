@@ -92,7 +92,7 @@ use Rattle.device_laws.specs.Lemmas.InquiryTexts.{IsPlainText, inquiry_plain}
 use Rattle.device_laws.specs.Lemmas.Lists.{all_both}
 use Rattle.device_laws.specs.Lemmas.MessageSteps.{respond_holds}
 use Rattle.device_laws.specs.Lemmas.Texts.{either}
-use Rattle.device_laws.specs.Plain.{IsPlainRequest, PlainPacket, PlainMessage, IsPlainFrame, SendsPlainly, ArePlain, IsPlainDevice, IsPlainEvent, PlainDevicesStayPlain}
+use Rattle.device_laws.specs.Plain.{HasPlainService, PacketHasPlainService, MessageHasPlainService, FrameHasPlainService, IsPlainFrame, SendsPlainly, ArePlain, IsPlainDevice, IsPlainEvent, PlainDevicesStayPlain}
 use Rattle.device_laws.specs.Replies.{IsPlainService, PlainFor, IsOfStream}
 use Rattle.device_laws.proofs.PlainTexts.{message_plain, bad_plain, frame_reply_plain}
 use Rattle.device_laws.proofs.ScannerPlain.{scanner_plain}
@@ -272,7 +272,7 @@ own_step : (b : Bool) (request asks : OwnRequest) → IsPlainService request.ser
 own_step true request asks serves is = let same : request ≡ asks = cc in subst (λ (r : OwnRequest). IsPlainService r.service) same serves
 own_step false request asks serves is = absurd (let e = is in cc)
 
-own_service : (objects : List ℕ) (request : RouterRequestFields) (asks : OwnRequest) → IsPlainRequest request → own_of objects request ≡ Some asks → IsPlainService asks.service
+own_service : (objects : List ℕ) (request : RouterRequestFields) (asks : OwnRequest) → HasPlainService request → own_of objects request ≡ Some asks → IsPlainService asks.service
 own_service objects nothing asks serves is = absurd (let e = is in cc)
 own_service objects (refused service why) asks serves is = absurd (let e = is in cc)
 own_service objects (closing request) asks serves is = absurd (let e = is in cc)
@@ -283,14 +283,14 @@ own_service objects (opening large request) asks serves is = absurd (let e = is 
 abbrev OverOurs : (ℕ → Bool) → Stream → Type 0 → Type 0
 OverOurs ours stream holds = ours stream.number ≡ true → holds
 
-request_plain : (ours : ℕ → Bool) (t : AdapterTable) (stream : Stream) (context : ℕ) (request : RouterRequestFields) (asks : Option OwnRequest) → own_of t.profile.objects request ≡ asks → OverOurs ours stream (IsPlainRequest request) → IsPlainTable ours t → HandledPlainly ours (request_handled t stream context request asks)
+request_plain : (ours : ℕ → Bool) (t : AdapterTable) (stream : Stream) (context : ℕ) (request : RouterRequestFields) (asks : Option OwnRequest) → own_of t.profile.objects request ≡ asks → OverOurs ours stream (HasPlainService request) → IsPlainTable ours t → HandledPlainly ours (request_handled t stream context request asks)
 request_plain ours t stream context request None is serves plain =
     replied_table ours t (counted_once request (stream_served t stream request)) plain (counted_keeps (ServedPlainly ours) (λ s counters has. has) request (stream_served t stream request) (over_plain ours t stream request plain))
 request_plain ours t stream context request (Some asks) is serves plain =
     either (HandledPlainly ours) (cannot_ask t stream.peer) (request_replied t (Some (router_refusal t asks.service status.ResourceUnavailable))) _ plain
     (messages_plain ours t t.next_id _ (referred_plain ours t.messaging stream.peer (asker.Stream stream.number context) asks.service t.clock (λ over. own_service t.profile.objects request asks (serves over) is) tt plain))
 
-packet_handled : (ours : ℕ → Bool) (t : AdapterTable) (stream : Stream) (context : ℕ) (reading : Result PacketFields ItemFault) → OverOurs ours stream (PlainPacket reading) → IsPlainTable ours t → HandledPlainly ours (packet_replied t stream context reading)
+packet_handled : (ours : ℕ → Bool) (t : AdapterTable) (stream : Stream) (context : ℕ) (reading : Result PacketFields ItemFault) → OverOurs ours stream (PacketHasPlainService reading) → IsPlainTable ours t → HandledPlainly ours (packet_replied t stream context reading)
 packet_handled ours t stream context (Err fault) serves plain = plain
 packet_handled ours t stream context (Ok packet) serves plain =
     request_plain ours t stream context (router_request_reading packet.payload) (own_of t.profile.objects (router_request_reading packet.payload)) refl serves plain
@@ -345,13 +345,13 @@ register_plain ours t stream body plain =
     (either (HandledPlainly ours) (not (bytes_eq body protocol_text)) _ _ plain
     (either (HandledPlainly ours) stream.registered (refusal t encap.InvalidCommand) (session_begun t stream) plain plain))
 
-handled_plain : (ours : ℕ → Bool) (t : AdapterTable) (stream : Stream) (echo : RequestHeader) (body : List ℕ) (kind : Command) → OverOurs ours stream (PlainPacket (any_packet_reading body)) → IsPlainTable ours t → HandledPlainly ours (handled t stream echo body kind)
+handled_plain : (ours : ℕ → Bool) (t : AdapterTable) (stream : Stream) (echo : RequestHeader) (body : List ℕ) (kind : Command) → OverOurs ours stream (PacketHasPlainService (any_packet_reading body)) → IsPlainTable ours t → HandledPlainly ours (handled t stream echo body kind)
 unfolding handled
 handled_plain ours t stream echo body command.Nop serves plain = plain
 handled_plain ours t stream echo body command.ListServices serves plain = plain
 handled_plain ours t stream echo body command.RegisterSession serves plain = register_plain ours t stream body plain
 handled_plain ours t stream echo body command.UnregisterSession serves plain = either (HandledPlainly ours) (has_session stream echo.session) (session_ended t stream) (unanswered t) (stream_plain ours t stream.number plain) plain
-handled_plain ours t stream echo body command.SendRrData serves plain = either (HandledPlainly ours) (has_session stream echo.session) _ _ (packet_handled ours t stream echo.context (items_for t.profile.description body) (λ over. items_hold PlainPacket (λ fault. tt) t.profile.description body (serves over)) plain) plain
+handled_plain ours t stream echo body command.SendRrData serves plain = either (HandledPlainly ours) (has_session stream echo.session) _ _ (packet_handled ours t stream echo.context (items_for t.profile.description body) (λ over. items_hold PacketHasPlainService (λ fault. tt) t.profile.description body (serves over)) plain) plain
 handled_plain ours t stream echo body command.SendUnitData serves plain = either (HandledPlainly ours) (has_session stream echo.session) _ _ (unit_plain ours t stream (connected_items_for t.profile.description body) plain) plain
 handled_plain ours t stream echo body command.Other serves plain = plain
 
@@ -381,7 +381,7 @@ misfit_plain ours back t stream (Some h) plain =
     either (GoesPlainly ours) (is_silent (command_of (request_header_in h.0).command)) (plain_answer BadFrame, t) (framed stream.number (request_header_in h.0) (refusal t encap.InvalidLength))
     (none_sent ours t (plain_answer BadFrame) plain refl) (framed_plain ours back stream.number (request_header_in h.0) (refusal t encap.InvalidLength) plain)
 
-read_goes : (ours : ℕ → Bool) → ItemsReadBack → (t : AdapterTable) (stream : Stream) (header : Option Tailed) (reading : Result MessageFields EncapFault) → OverOurs ours stream (PlainMessage reading) → IsPlainTable ours t → GoesPlainly ours (frame_answer t stream (frame_fields header reading))
+read_goes : (ours : ℕ → Bool) → ItemsReadBack → (t : AdapterTable) (stream : Stream) (header : Option Tailed) (reading : Result MessageFields EncapFault) → OverOurs ours stream (MessageHasPlainService reading) → IsPlainTable ours t → GoesPlainly ours (frame_answer t stream (frame_fields header reading))
 read_goes ours back t stream header (Err why) serves plain = misfit_plain ours back t stream header plain
 read_goes ours back t stream header (Ok m) serves plain =
     framed_plain ours back stream.number (request_header_of m) (handled t stream (request_header_of m) m.payload (command_of m.command)) (handled_plain ours t stream (request_header_of m) m.payload (command_of m.command) serves plain)
@@ -389,16 +389,16 @@ read_goes ours back t stream header (Ok m) serves plain =
 text_plain : (text : List ℕ) → IsPlainText text → IsPlainFrame text
 text_plain text plain = subst IsPlainFrame (sym plain.is) (message_plain plain.message (bad_plain plain.message.payload plain.bad))
 
-bytes_go : (ours : ℕ → Bool) → ItemsReadBack → (t : AdapterTable) (stream : Stream) (bytes : List ℕ) → OverOurs ours stream (IsPlainFrame bytes) → IsPlainTable ours t → GoesPlainly ours (frame_answer t stream (frame_reading bytes))
+bytes_go : (ours : ℕ → Bool) → ItemsReadBack → (t : AdapterTable) (stream : Stream) (bytes : List ℕ) → OverOurs ours stream (FrameHasPlainService bytes) → IsPlainTable ours t → GoesPlainly ours (frame_answer t stream (frame_reading bytes))
 unfolding frame_reading
 bytes_go ours back t stream bytes serves plain = read_goes ours back t stream _ (message_reading bytes) serves plain
 
-stream_goes : (ours : ℕ → Bool) → ItemsReadBack → (t : AdapterTable) (stream : Stream) (bytes : List ℕ) (reply : Option (List ℕ)) → IfSome reply IsPlainText → OverOurs ours stream (IsPlainFrame bytes) → IsPlainTable ours t → GoesPlainly ours (stream_answer t stream bytes reply)
+stream_goes : (ours : ℕ → Bool) → ItemsReadBack → (t : AdapterTable) (stream : Stream) (bytes : List ℕ) (reply : Option (List ℕ)) → IfSome reply IsPlainText → OverOurs ours stream (FrameHasPlainService bytes) → IsPlainTable ours t → GoesPlainly ours (stream_answer t stream bytes reply)
 stream_goes ours back t stream bytes None text serves plain =
     answer_has (GoesPlainly ours) t stream bytes (bytes_go ours back t stream bytes serves plain) (misfit_plain ours back t stream (fields_at header_widths bytes) plain) (none_sent ours t (plain_answer Done) plain refl)
 stream_goes ours back t stream bytes (Some reply) text serves plain = record { table = plain; frames = λ small. (text_plain reply text, tt) }
 
-frame_goes : (ours : ℕ → Bool) → ItemsReadBack → (t : AdapterTable) (number : ℕ) (bytes : List ℕ) (found : Option Stream) → find (is_stream number) t.streams ≡ found → (ours number ≡ true → IsPlainFrame bytes) → IsPlainTable ours t → OkPlainly ours (frame_of t bytes found)
+frame_goes : (ours : ℕ → Bool) → ItemsReadBack → (t : AdapterTable) (number : ℕ) (bytes : List ℕ) (found : Option Stream) → find (is_stream number) t.streams ≡ found → (ours number ≡ true → FrameHasPlainService bytes) → IsPlainTable ours t → OkPlainly ours (frame_of t bytes found)
 frame_goes ours back t number bytes None is serves plain = tt
 frame_goes ours back t number bytes (Some stream) is serves plain =
     let same : stream.number ≡ number = eqb-true stream.number number (found_passes (is_stream number) t.streams stream is) in

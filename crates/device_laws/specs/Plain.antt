@@ -1,6 +1,7 @@
 -- Plain frames, and plain devices: over some of its streams no request waits that an application could answer by what reads as the
--- success of an opening. A device over whose streams plain frames come stays plain, whatever comes over its other streams and over
--- class 3 connections (Volume 1, chapter 3, Forward_Open service).
+-- success of an opening. A device stays plain if no frame over these streams asks an object for the service of an opening, whatever
+-- connections they open, and whatever comes over its other streams and over class 3 connections (Volume 1, chapter 3, Forward_Open
+-- service).
 use Rattle.std.specs.Prelude.{ℕ, ◌≡◌, Bool, true, false, List, Result, Ok, Err}
 use Rattle.std.specs.List.{AllByRecursion}
 use Rattle.cip_encap.specs.declared.message.EncapFault.{EncapFault}
@@ -25,7 +26,27 @@ use Rattle.device_laws.specs.Replies.{IsPlainService, AsksPlainly, AsksOverStrea
 
 -- FRAMES
 
--- the request opens no class 3 connection, and no reply to it is a success of an opening unless it opens a connection
+-- the request asks no object for the service of an opening, so nothing that an application answers to it is a success of one
+abbrev pub HasPlainService : RouterRequestFields → Type 0
+HasPlainService nothing = Unit {0}
+HasPlainService (refused service why) = Unit {0}
+HasPlainService (closing request) = Unit {0}
+HasPlainService (object service class instance attribute body) = IsPlainService service
+HasPlainService (opening large request) = Unit {0}
+
+abbrev pub PacketHasPlainService : Result PacketFields ItemFault → Type 0
+PacketHasPlainService (Err fault) = Unit {0}
+PacketHasPlainService (Ok packet) = HasPlainService (router_request_reading packet.payload)
+
+abbrev pub MessageHasPlainService : Result MessageFields EncapFault → Type 0
+MessageHasPlainService (Err fault) = Unit {0}
+MessageHasPlainService (Ok m) = PacketHasPlainService (any_packet_reading m.payload)
+
+-- the frame is such a request, if it can be read as one
+abbrev pub FrameHasPlainService : List ℕ → Type 0
+FrameHasPlainService bytes = MessageHasPlainService (message_reading bytes)
+
+-- the request has such a service, and opens no class 3 connection
 abbrev pub IsPlainRequest : RouterRequestFields → Type 0
 IsPlainRequest nothing = Unit {0}
 IsPlainRequest (refused service why) = Unit {0}
@@ -61,10 +82,11 @@ IsPlainDevice ours (Scanner t) = Unit {0}
 
 -- STEPS
 
--- a frame that is plain if it comes over one of these streams, or another event than a `Request`, which comes without a stream
+-- a frame that asks no object for the service of an opening if it comes over one of these streams, or another event than a `Request`,
+-- which comes without a stream
 abbrev pub IsPlainEvent : (ℕ → Bool) → Event → Type 0
 IsPlainEvent ours (Request peer bytes) = ⊥
-IsPlainEvent ours (event.Frame stream bytes) = ours stream ≡ true → IsPlainFrame bytes
+IsPlainEvent ours (event.Frame stream bytes) = ours stream ≡ true → FrameHasPlainService bytes
 IsPlainEvent ours other = Unit {0}
 
 -- a plain device stays plain at such an event, and sends plain frames

@@ -5,11 +5,12 @@ ghost use Rattle.device_laws.specs.Plain.{PlainDevicesStayPlain};
 use answer_sizes::answers_are_small;
 use cip_encap::reads_back;
 
-/// A plain frame asks for no class 3 connection, and asks no object for the service of an opening. A device is plain over some of its
-/// streams if no waiting request that came over one of them has the service of an opening, and each waiting request came over a
-/// stream or a class 3 connection. It stays so at each event at which what comes over one of these streams is a plain frame, whatever
-/// comes over its other streams and over class 3 connections, and sends plain frames alone. So devices that exchange their own frames
-/// over these streams stay plain over them, whatever their applications answer.
+/// A device is plain over some of its streams if no waiting request that came over one of them has the service of an opening, and each
+/// waiting request came over a stream or a class 3 connection. It stays so at each event at which no frame over one of these streams
+/// asks an object for the service of an opening, whatever connections such a frame opens, of class 1 or 3, and whatever comes over the
+/// device's other streams and over class 3 connections. It sends plain frames alone: they ask no object for that service, and open no
+/// class 3 connection. So devices that exchange their own frames over these streams stay plain over them, whatever their applications
+/// answer.
 ///
 /// The law speaks of steps from a whole table that give an answer, and of every event but `Request`, which comes without a stream.
 ///

@@ -10,7 +10,7 @@ ghost use Rattle.cip_events.specs.declared.event.Verdict.TheVariants.{Delivered}
 ghost use Rattle.cip_events.specs.Answers.{plain_answer};
 ghost use Rattle.cip_events.specs.Clock.{longest_tick};
 ghost use Rattle.cip_tables.specs.Step.{step};
-ghost use Rattle.cip_tables.specs.States.{owner_in, connection_in, slot_in};
+ghost use Rattle.cip_tables.specs.States.{owner_in, connection_in, slot_in, totals_of};
 ghost use Rattle.cip_tables.specs.Wakes.{IsQuietFor, due_in};
 ghost use Rattle.trace_text.specs.Reading.{trace_reading};
 ghost use Rattle.flat_answers.specs.Flat.{delivery_number, delivery_of};
@@ -277,6 +277,18 @@ pub extern "C" fn eip_c_ids(
     let block = IdBlock { first, count };
     let event = Event::Ids { block };
     device.perform(&event, out, size)
+}
+
+/// Answers how many connection ids the device has left. Takes no memory.
+#[unsafe(no_mangle)]
+pub extern "C" fn eip_c_ids_left(device: &mut Handle) -> u32
+    ensures left { result ≡ (totals_of (table_of device.old.value.device)).ids_left }
+    ensures unchanged { device.new.value ≡ device.old.value }
+{
+    let taken = device.cell.take();
+    let left = taken.device.totals().ids_left;
+    device.cell.put(taken);
+    left
 }
 
 // OBJECTS OF THE MAKER'S OWN

@@ -1,7 +1,7 @@
 -- When a plant and the lives of its devices are over, and which devices a phase of its end ends. Times are in milliseconds since the plant began.
-use Rattle.std.specs.Prelude.{ℕ, nat_le, min, ◌==◌, ◌&&◌, ◌||◌, is_some, Bool, true, false, Option, Some, None, Result, Ok, Err}
+use Rattle.std.specs.Prelude.{ℕ, nat_le, min, ◌==◌, ◌&&◌, ◌||◌, if◌then◌else◌, is_some, Bool, true, false, Option, Some, None, Result, Ok, Err}
 use Rattle.cip_types.specs.declared.ids.IdBlock.{IdBlock}
-use Rattle.cip_types.specs.Ids.{ids_behind}
+use Rattle.cip_types.specs.Ids.{ids_behind, is_block}
 use Rattle.plant_command.specs.declared.endings.LifeNames.{LifeNames}
 use Rattle.plant_rim.specs.Incarnations.{next_of}
 use Rattle.plant_rim.specs.declared.failure.DeviceFailure.{DeviceFailure}
@@ -46,8 +46,12 @@ life_end end (Some fault) = Err RecordEnd
 abbrev pub new_names : ℕ → IdBlock → LifeNames
 new_names incarnation ids = record { incarnation = incarnation; ids = ids; left = ids.count }
 
+-- the ids behind those of which so many were not given; numbers that are no block stay
+abbrev pub unused_of : IdBlock → ℕ → IdBlock
+unused_of ids left = if is_block ids then ids_behind ids left else ids
+
 -- A life follows a restart, and nothing else. It has the ids that no life before it has given, unless it is to have the same ones.
 abbrev pub next_names : IncarnationSpan → LifeNames → LifeEnd → ℕ → Option LifeNames
 next_names span names (Restart true) left = Some (record names { left = min left names.left })
-next_names span names (Restart false) left = Some (new_names (next_of span names.incarnation) (ids_behind names.ids (min left names.left)))
+next_names span names (Restart false) left = Some (new_names (next_of span names.incarnation) (unused_of names.ids (min left names.left)))
 next_names span names other left = None

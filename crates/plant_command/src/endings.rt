@@ -1,8 +1,7 @@
 //! When a plant and the lives of its devices are over, and which devices a phase of its end ends.
 
-ghost use Rattle.std.specs.Prelude.{◌≡◌, true};
-ghost use Rattle.cip_types.specs.Ids.{is_block};
-ghost use Rattle.plant_command.specs.Endings.{ends, is_late, is_over, is_stillborn, life_end, new_names, next_names, seconds_of};
+ghost use Rattle.std.specs.Prelude.{◌≡◌};
+ghost use Rattle.plant_command.specs.Endings.{ends, is_late, is_over, is_stillborn, life_end, new_names, next_names, seconds_of, unused_of};
 
 use cip_types::{IdBlock, ids_behind};
 use plant_rim::{DeviceFailure, IncarnationSpan, PlantPhase};
@@ -86,6 +85,17 @@ impl LifeNames {
     }
 }
 
+/// The ids of a life behind those of which so many were not given: never the first one again. Numbers that are no block stay.
+fn unused_of(ids: IdBlock, left: u32) -> IdBlock
+    ensures { result ≡ unused_of ids left }
+{
+    if ids.is_block() {
+        ids_behind(ids, left)
+    } else {
+        ids
+    }
+}
+
 /// The names of the life behind one that ends so, whose device has so many ids left, if there is one: the next incarnation, and
 /// the ids that no life has given, or both once more.
 pub(crate) fn next_names(
@@ -94,7 +104,6 @@ pub(crate) fn next_names(
     end: LifeEnd,
     left: u32,
 ) -> Option<LifeNames>
-    requires { is_block names.ids ≡ true }
     ensures { result ≡ next_names span names end left }
 {
     match end {
@@ -103,7 +112,7 @@ pub(crate) fn next_names(
             ..names
         }),
         LifeEnd::Restart { same: false } => {
-            let ids = ids_behind(names.ids, left.min(names.left));
+            let ids = unused_of(names.ids, left.min(names.left));
             Some(LifeNames::new(span.next(names.incarnation), ids))
         }
         _ => None,

@@ -230,12 +230,19 @@ where
                 }
                 Ok(())
             }
+            TypedLine::Numbers => {
+                for member in self.members {
+                    let bytes = line.len().saturating_add(1);
+                    member.typed.offer(&self.rt, StationStep::Numbers, bytes);
+                }
+                Ok(())
+            }
             TypedLine::For { name_end, step } => {
                 let name = line.get(..name_end).unwrap_or(&[]);
                 self.hand_to(name, step, line.len().saturating_sub(name_end))
             }
             TypedLine::NoCall => self.report(
-                "is no call: status, or NAME and write POINT HEX, read POINT, mode run, mode idle, start SLOT, stop SLOT, status, cut, pause MS, restart [same], send NODE HEX",
+                "is no call: status [--csv], or NAME and write POINT HEX, read POINT, mode run, mode idle, start SLOT, stop SLOT, status [--csv], cut, pause MS, restart [same], send NODE HEX",
             ),
         }
     }

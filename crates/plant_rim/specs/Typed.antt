@@ -2,9 +2,9 @@
 use Rattle.std.specs.Prelude.{ℕ, ◌+◌, ◌==◌, if◌then◌else◌, Bool, List, drop, position, Option, Some, None}
 use Rattle.plant_rim.specs.File.Calls.{typed_call_of}
 use Rattle.station.specs.declared.step.StationStep.{StationStep}
-use Rattle.station_lines.specs.Calls.{is_skipped, is_status}
+use Rattle.station_lines.specs.Calls.{is_numbers, is_skipped, is_status}
 use Rattle.plant_rim.specs.declared.typed.TypedLine.{TypedLine}
-use Rattle.plant_rim.specs.declared.typed.TypedLine.TheVariants.{Skipped, Status, For, NoCall}
+use Rattle.plant_rim.specs.declared.typed.TypedLine.TheVariants.{Skipped, Status, Numbers, For, NoCall}
 
 abbrev pub is_space : ℕ → Bool
 is_space byte = byte == 32
@@ -21,4 +21,4 @@ for_device line (Some end) = for_step end (typed_call_of (drop (end + 1) line))
 
 -- a line without its LF
 abbrev pub typed_of : List ℕ → TypedLine
-typed_of line = if is_skipped line then Skipped else (if is_status line then Status else for_device line (position is_space line))
+typed_of line = if is_skipped line then Skipped else (if is_status line then Status else (if is_numbers line then Numbers else for_device line (position is_space line)))

@@ -1,7 +1,7 @@
 //! The lines of a plant's standard input. Here a text becomes the step of a device.
 
 ghost use Rattle.std.specs.Prelude.{◌≡◌, ◌<◌, length, position, slice_index_or, IfOk, IfSome};
-ghost use Rattle.station_lines.specs.Calls.{is_skipped, is_status};
+ghost use Rattle.station_lines.specs.Calls.{is_numbers, is_skipped, is_status};
 ghost use Rattle.plant_rim.specs.Typed.{for_device, is_space, typed_of};
 
 use crate::file::read_typed_call;
@@ -16,6 +16,8 @@ pub enum TypedLine {
     Skipped,
     /// The call for the state of all devices.
     Status,
+    /// The call for what was counted of the connections of all devices.
+    Numbers,
     /// A step of the device whose name has so many bytes; a space is behind the name, and the text of the step behind that.
     For { name_end: usize, step: StationStep },
     /// Anything else.
@@ -31,6 +33,9 @@ pub fn read_typed(alloc: Global, line: &[u8]) -> Result<TypedLine, OutOfMemory>
     }
     if is_status(line) {
         return Ok(TypedLine::Status);
+    }
+    if is_numbers(line) {
+        return Ok(TypedLine::Numbers);
     }
     for_device(alloc, line, name_end(line))
 }
@@ -79,4 +84,11 @@ fn is_status(line: &[u8]) -> bool
     ensures { result ≡ is_status line.now }
 {
     line == b"status".as_slice()
+}
+
+/// Whether a line is the words `status --csv` alone.
+fn is_numbers(line: &[u8]) -> bool
+    ensures { result ≡ is_numbers line.now }
+{
+    line == b"status --csv".as_slice()
 }

@@ -8,6 +8,7 @@ ghost use Rattle.scanner_table.specs.Slots.{slot_at};
 ghost use Rattle.scanner_table.specs.Step.{scanner_step, take_ids};
 ghost use Rattle.scanner_table.specs.WellFormed.{IsWellFormed};
 ghost use Rattle.scanner_slots.specs.Bounding.{IsHinted};
+ghost use Rattle.scanner_slots.specs.declared.bounds.Bounds.{Bounds};
 ghost use Rattle.scanner.specs.Tables.{table_in};
 
 use crate::slots::ScannerSlots;
@@ -79,7 +80,8 @@ impl ScannerSlots {
     #[tactic(auto, unfolding(scanner_table::specs::Step::take_ids))]
     fn take_ids(&mut self, block: IdBlock) -> Outcome
         requires { IsWellFormed (table_in self.old) }
-        ensures { Follows (take_ids (table_in self.old) block) (table_in self.old) result (table_in self.new) }
+        ensures step { Follows (take_ids (table_in self.old) block) (table_in self.old) result (table_in self.new) }
+        ensures hints { (bounds : Bounds) → IsHinted bounds (table_in self.old) → IsHinted bounds (table_in self.new) }
     {
         if !may_take(&self.state.ids, block) {
             return Err(StepFault::NotAllowedNow);

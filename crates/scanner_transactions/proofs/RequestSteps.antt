@@ -1,7 +1,9 @@
 -- Openings and closings as requests and changes of a slot.
-use Rattle.std.proofs.Common.{◌≡◌, ◌≤◌, ℕ, Bool, true, false, nat_le, if◌then◌else◌, List, [], ◌∷◌, ◌++◌, slice_get, slice_set, Option, Some, None, refl, sym, ◌∙◌, ap, subst, arith, IsTrue, Result, Ok, Err}
+use Rattle.std.proofs.Common.{◌≡◌, ◌≤◌, ℕ, Bool, true, false, ◌||◌, ◌-◌, ◌^◌, nat_le, nat_lt, if◌then◌else◌, List, [], ◌∷◌, ◌++◌, slice_get, slice_set, Option, Some, None, refl, sym, ◌∙◌, ap, subst, arith, IsTrue, Result, Ok, Err}
 use Rattle.std.specs.Result.{IfOk}
+use Rattle.cip_types.specs.declared.ids.IdBlock.{IdBlock}
 use Rattle.cip_types.specs.declared.memory.OutOfMemory as memory
+use Rattle.cip_types.specs.Ids.{end_number}
 use Rattle.cip_events.specs.declared.event.StepFault.{StepFault}
 use Rattle.cip_events.specs.declared.event.StepFault.TheVariants.{NotAllowedNow}
 use Rattle.cip_types.specs.declared.names.Triad.{Triad}
@@ -39,6 +41,11 @@ use Rattle.scanner_transactions.proofs.Steps.{adds_nothing}
 
 pub within : (a b : ℕ) → nat_le a b ≡ true → a ≤ b
 within a b is = grind (arith, nat_tests)
+
+-- an id that is left has a number below the last one
+pub id_follows : (multicast : Bool) (number : ℕ) (ids : List IdBlock) → (multicast || nat_lt number (end_number ids)) ≡ true → (multicast || nat_lt number (2 ^ 32 - 1)) ≡ true
+id_follows true number ids left = refl
+id_follows false number ids left = grind (arith, nat_tests)
 
 -- the numbers left for a slot are left for its configuration
 pub left_for : (t : ScannerTable) (number : ℕ) (indexed : IndexedSlot) → Some indexed ≡ slot_at t number → ForSome (slot_at t number) (λ other. IsTrue (can_open t other.config)) → (has_request t ≡ true) × (has_id t indexed.config ≡ true)

@@ -1,6 +1,7 @@
 //! The beginning of a transaction.
 
-ghost use Rattle.std.specs.Prelude.{◌≡◌, ◌≤◌, ◌^◌, None};
+ghost use Rattle.std.specs.Prelude.{◌≡◌, ◌≤◌, ◌^◌, true, None};
+ghost use Rattle.cip_types.specs.Ids.{are_blocks};
 ghost use Rattle.scanner_table.specs.Profiles.{profile_fault};
 ghost use Rattle.scanner_slots.specs.Views.{table_of};
 ghost use Rattle.scanner_transactions.specs.Transactions.{begun, view_transaction};
@@ -40,6 +41,8 @@ impl<'a> Transaction<'a> {
     ) -> Transaction<'a>
         requires faultless { profile_fault profile.now ≡ None }
         requires time { scanner.old.clock.0 ≤ 2 ^ 48 }
+        requires blocks { are_blocks scanner.old.ids.items ≡ true }
+        requires begins { 1 ≤ scanner.old.next_id }
         ensures effect { view_transaction result ≡ begun (table_of profile.now scanner.old) }
         ensures profile { result.profile.now ≡ profile.now }
         ensures scanner { result.scanner ≡ scanner.old }

@@ -1,6 +1,7 @@
 //! The transaction.
 
-ghost use Rattle.std.specs.Prelude.{◌≡◌, ◌≤◌, ◌^◌, None};
+ghost use Rattle.std.specs.Prelude.{◌≡◌, ◌≤◌, ◌^◌, true, None};
+ghost use Rattle.cip_types.specs.Ids.{are_blocks};
 ghost use Rattle.scanner_table.specs.Profiles.{profile_fault};
 
 use crate::undo::Undo;
@@ -24,4 +25,8 @@ pub struct Transaction<'a> {
     pub ghost faultless: { profile_fault profile.now ≡ None },
     /// The clock does not pass its end.
     pub ghost time: { scanner.clock.0 ≤ 2 ^ 48 },
+    /// No two of the blocks of connection ids have an id in common.
+    pub ghost blocks: { are_blocks scanner.ids.items ≡ true },
+    /// The number of the next connection id is not 0.
+    pub ghost begins: { 1 ≤ scanner.next_id },
 }

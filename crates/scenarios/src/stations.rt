@@ -7,7 +7,8 @@
 //! - `input`: a line of the application, or the end of them;
 //! - `out`, `err`: a line that the station prints, and one that it reports; `record`: a line of its record;
 //! - `sends`, `refuses`: an output of the port, and one that it cannot send; `told`: what the port is told of peers;
-//! - `ended`: how the station ended, and why its record did.
+//! - `ended`: how the station ended, and why its record did;
+//! - `report`: a line of the suite of a script.
 
 mod clock;
 mod fault;

@@ -28,7 +28,7 @@ use Rattle.segment_world.specs.Story.{Story, runs, begins}
 use Rattle.segment_world.specs.Configs.{opening_world}
 use Rattle.device_laws.specs.Ids.{FrameIds, DatagramId}
 use Rattle.device_laws.specs.Carrying.{Passes, TableIds, HasClass3Ids, SlotCame}
-use Rattle.device_laws.specs.Plain.{IsPlainFrame, IsPlainDevice}
+use Rattle.device_laws.specs.Plain.{FrameHasPlainService, IsPlainDevice}
 use Rattle.device_laws.specs.Requests.{is_between}
 use Rattle.schedule_laws.specs.Lives.{AreApart, AreLives, HasNumber}
 use Rattle.schedule_laws.specs.Stories.{led_to}
@@ -71,14 +71,14 @@ any_opening opening = true
 abbrev pub any_stream : ℕ → Bool
 any_stream number = true
 
--- each id of the frame is drawn, and it opens no class 3 connection
+-- each id of the frame is drawn, and it asks no object for the service of an opening
 abbrev pub IsDrawnFrame : List DeviceTable → List ℕ → Type 0
-IsDrawnFrame tables bytes = FrameIds (Passes (is_drawn tables)) bytes × IsPlainFrame bytes
+IsDrawnFrame tables bytes = FrameIds (Passes (is_drawn tables)) bytes × FrameHasPlainService bytes
 
 -- All devices have whole tables. Each id that is anywhere is drawn: in a connection of class 1 or 3, in a datagram that was ever
 -- sent, and in a frame that waits on a stream, whether it is read as a request or as a reply. No frame that waits on a stream asks
--- for a class 3 connection. Each request that waits for an application came over a stream or a class 3 connection, and has no
--- service of an opening if it came over a stream itself.
+-- an object for the service of an opening. Each request that waits for an application came over a stream or a class 3 connection, and
+-- has no service of an opening if it came over a stream itself.
 pub record IdsAreDrawn (w : World) : Type 0 where
   pub whole : (device : ℕ) (t : DeviceTable) → slice_get w.tables device ≡ Some t → IsWholeDevice t
   pub tables : (device : ℕ) (t : DeviceTable) → slice_get w.tables device ≡ Some t → TableIds (is_drawn w.tables) any_opening t

@@ -6,7 +6,7 @@
 //! outputs and images hold, `connections` which points a connection joins.
 //!
 //! A device that restarts is several devices of a schedule, one for each life, with one address. So no law of order asks that
-//! addresses differ, only that incarnations do; `restarts` says what follows for lives.
+//! addresses differ, only that no two devices have a connection id in common; `restarts` says what follows for lives.
 #![tactic(auto)]
 
 ghost use Rattle.schedule_laws.specs.Owners.{OwnersFollow, OpenedOwnersFollow};
@@ -60,20 +60,21 @@ pub fn owners_follow_one_another()
     tables::tables_are_whole();
 }
 
-/// No connection id that a device may still allocate is anywhere in the world: in no table, in no datagram that was ever
-/// sent, and in no frame that waits on a stream. The tables are whole, and the incarnations are bytes that are not 0 and
-/// differ. No frame that waits on a stream opens a class 3 connection: a scanner opens none. Devices may have such connections.
+/// Each connection id that is anywhere in the world was allocated by a device: in a connection of class 1 or 3, in a datagram that was
+/// ever sent, and in a frame that waits on a stream. The tables are whole. No frame that waits on a stream asks an object for the service
+/// of an opening, and no request that waits for an application and came over a stream itself has it. Frames may open class 3
+/// connections, and devices may have them.
 ///
 /// - `schedule`: if it holds of a world, it holds after every schedule from that world.
-/// - `opened`: it holds of a world that begins from configurations of lives, whose incarnations are bytes.
+/// - `opened`: it holds of a world that begins from configurations of lives.
 ///
 /// Volume 1, chapter 3, network connection ids.
 pub fn ids_are_drawn()
     ensures schedule { SchedulesKeepIdsDrawn }
     ensures opened { OpeningWorldsHaveIdsDrawn }
 {
-    // A step carries ids or allocates the next ones, keeps tables whole, and moves the counter only forward; the
-    // profile, and with it the incarnation, stays.
+    // A step carries ids or allocates the next ones, keeps tables whole, moves the counter only forward, and takes no block
+    // from a device.
     ids_are_carried();
     class3_ids_are_carried();
     plain_devices_stay_plain();
@@ -85,7 +86,8 @@ pub fn ids_are_drawn()
 }
 
 /// A connection that begins after a moment accepts no datagram that was sent by then, however late the network delivers
-/// it. The laws hold of two moments of one schedule from a world of which `ids_are_drawn` holds.
+/// it. The laws hold of two moments of one schedule from a world of which `ids_are_drawn` holds, if at the later one no two devices
+/// have a connection id in common.
 ///
 /// - `unsent`: an id that a device may still allocate is on no datagram that was ever sent.
 /// - `connections`: a connection of an adapter that was not in the table at the earlier moment accepts no datagram that

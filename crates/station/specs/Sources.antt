@@ -33,6 +33,7 @@ step_of input.Skipped line = step.Wait 0
 step_of (input.Call event) line = step.Call event
 step_of (input.Attribute call) line = step.Ask call
 step_of input.Status line = step.Status
+step_of input.Numbers line = step.Numbers
 step_of input.NoCall line = step.NoCall line
 
 -- the step of what an input has, behind so many lines

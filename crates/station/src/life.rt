@@ -109,6 +109,7 @@ impl<
             StationStep::Call(event) => self.act(&event),
             StationStep::Ask(call) => self.ask(&call),
             StationStep::Status => self.print_status(),
+            StationStep::Numbers => self.print_numbers(),
             StationStep::NoCall { line } => self.report_line(line),
             StationStep::Order(order) => self.order(order),
             StationStep::Say { text } => self.print_said(text.as_slice()),

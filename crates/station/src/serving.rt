@@ -449,6 +449,18 @@ impl<P: GroupPort, C: Clock, D: Device, W: RecordSink + Drop, O: LineSink, E: Li
         Ok(())
     }
 
+    /// Prints the lines of the call `status --csv`, which is no event of the device. The fault: there was no memory for them.
+    pub(crate) fn print_numbers(&mut self) -> Result<(), EarlyEnd>
+        ensures { Rests P.is_scripted P.tape P.failed self.old self.new }
+    {
+        self.text.clear();
+        let at = self.observer.moment();
+        self.points
+            .push_numbers(&mut self.text, &self.device, self.observer.traffic(), at)?;
+        self.observer.print(self.text.as_bytes());
+        Ok(())
+    }
+
     /// Prints what a script tells of one of its lines, behind the number of the last event and the time.
     pub(crate) fn print_said(&mut self, said: &[u8]) -> Result<(), EarlyEnd>
         ensures { Rests P.is_scripted P.tape P.failed self.old self.new }
@@ -470,7 +482,7 @@ impl<P: GroupPort, C: Clock, D: Device, W: RecordSink + Drop, O: LineSink, E: Li
         self.text.clear();
         if write!(
             &mut self.text,
-            "eip_station: line {number} of standard input is no call: write POINT HEX, read POINT, mode run, mode idle, start SLOT, stop SLOT, get NODE CLASS INSTANCE ATTRIBUTE, set NODE CLASS INSTANCE ATTRIBUTE HEX, explicit NODE NUMBER HEX, answer NUMBER STATUS HEX, status\n"
+            "eip_station: line {number} of standard input is no call: write POINT HEX, read POINT, mode run, mode idle, start SLOT, stop SLOT, get NODE CLASS INSTANCE ATTRIBUTE, set NODE CLASS INSTANCE ATTRIBUTE HEX, explicit NODE NUMBER HEX, answer NUMBER STATUS HEX, status [--csv]\n"
         )
         .is_err()
         {

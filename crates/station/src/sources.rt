@@ -105,6 +105,7 @@ fn step_of(said: InputLine, line: u64) -> StationStep
         InputLine::Call(event) => StationStep::Call(event),
         InputLine::Attribute(call) => StationStep::Ask(call),
         InputLine::Status => StationStep::Status,
+        InputLine::Numbers => StationStep::Numbers,
         InputLine::NoCall => StationStep::NoCall { line },
     }
 }

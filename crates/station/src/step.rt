@@ -28,6 +28,8 @@ pub enum StationStep {
     Ask(AttributeCall),
     /// It prints its state.
     Status,
+    /// It prints what was counted of its connections.
+    Numbers,
     /// It reports that the line of this number of its input is no call.
     NoCall { line: u64 },
     /// Its port obeys an order.
@@ -50,6 +52,7 @@ impl StationStep {
             StationStep::Call(event) => Ok(StationStep::Call(event.copy(alloc)?)),
             StationStep::Ask(call) => Ok(StationStep::Ask(call_copy(alloc, call)?)),
             StationStep::Status => Ok(StationStep::Status),
+            StationStep::Numbers => Ok(StationStep::Numbers),
             StationStep::NoCall { line } => Ok(StationStep::NoCall { line: *line }),
             StationStep::Order(order) => Ok(StationStep::Order(order_copy(alloc, order)?)),
             StationStep::Say { text } => {

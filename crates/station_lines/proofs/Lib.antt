@@ -3,3 +3,4 @@ mod Samples
 mod WatchSamples
 mod DatagramCountsSamples
 mod ReportedSamples
+mod NumbersSamples

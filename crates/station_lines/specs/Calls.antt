@@ -46,6 +46,10 @@ is_skipped line = slice_index_or line 0 35 == 35
 abbrev pub is_status : List ℕ → Bool
 is_status line = bytes_eq line (codes "status")
 
+-- the line is the words that ask for what was counted of its connections
+abbrev pub is_numbers : List ℕ → Bool
+is_numbers line = bytes_eq line (codes "status --csv")
+
 -- the call that a line of ASCII writes, if it concerns an attribute of a target
 abbrev pub attribute_in : List ℕ → Option AttributeCall
 attribute_in line = if is_ascii line then attribute_call_of line else None
@@ -61,4 +65,4 @@ line_with (Some given) requested = input.Call given
 line_with None requested = attribute_with requested
 
 abbrev pub line_of : List ℕ → InputLine
-line_of text = if is_skipped text then input.Skipped else (if is_status text then input.Status else line_with (call_of text) (attribute_in text))
+line_of text = if is_skipped text then input.Skipped else (if is_status text then input.Status else (if is_numbers text then input.Numbers else line_with (call_of text) (attribute_in text)))

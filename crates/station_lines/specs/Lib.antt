@@ -1,6 +1,7 @@
 pub mod Calls
 pub mod Details
 pub mod Lines
+pub mod Numbers
 pub mod OwnRequests
 pub mod Points
 pub mod Reasons

@@ -2,7 +2,7 @@
 
 ghost use Rattle.std.specs.Prelude.{◌≡◌, slice_index_or, IfOk};
 ghost use Rattle.trace_words.specs.Reader.{Finds};
-ghost use Rattle.station_lines.specs.Calls.{attribute_in, attribute_with, call_of, has_news, is_call, is_reply, is_skipped, is_status, line_of};
+ghost use Rattle.station_lines.specs.Calls.{attribute_in, attribute_with, call_of, has_news, is_call, is_numbers, is_reply, is_skipped, is_status, line_of};
 
 use crate::attributes::{AttributeCall, read_attribute_call};
 use cip_events::{Event, Outcome, StepFault, Verdict};
@@ -51,6 +51,8 @@ pub enum InputLine {
     Attribute(AttributeCall),
     /// The call for the state of the station.
     Status,
+    /// The call for what was counted of its connections.
+    Numbers,
     /// Anything else.
     NoCall,
 }
@@ -64,6 +66,9 @@ pub fn read_line(alloc: Global, line: &[u8]) -> Result<InputLine, OutOfMemory>
     }
     if is_status(line) {
         return Ok(InputLine::Status);
+    }
+    if is_numbers(line) {
+        return Ok(InputLine::Numbers);
     }
     match read_call(alloc, line) {
         Ok(event) => Ok(InputLine::Call(event)),
@@ -98,6 +103,13 @@ fn is_status(line: &[u8]) -> bool
     ensures { result ≡ is_status line.now }
 {
     line == b"status".as_slice()
+}
+
+/// Whether a line is the words `status --csv` alone.
+fn is_numbers(line: &[u8]) -> bool
+    ensures { result ≡ is_numbers line.now }
+{
+    line == b"status --csv".as_slice()
 }
 
 /// The first byte of a line; that of a comment if it has none.

@@ -181,7 +181,7 @@ fn push_mean(out: &mut String, word: &str, sum: u64, count: u64) -> Result<(), O
 }
 
 /// Appends the number of a mean.
-fn push_mean_tenths(out: &mut String, sum: u64, count: u64) -> Result<(), OutOfMemory>
+pub(crate) fn push_mean_tenths(out: &mut String, sum: u64, count: u64) -> Result<(), OutOfMemory>
     ensures { OnOk result (string_bytes out.new ≡ string_bytes out.old ++ tenths_text (mean_tenths sum count)) }
 {
     push_tenths(out, mean_tenths(sum, count))

@@ -8,6 +8,7 @@ mod attributes;
 mod calls;
 mod details;
 mod lines;
+mod numbers;
 mod points;
 mod reasons;
 mod reported;

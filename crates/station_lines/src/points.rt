@@ -4,8 +4,10 @@ ghost use Rattle.std.specs.Prelude.{◌≡◌, ◌++◌, map, slice_get, IfOk, O
 ghost use Rattle.std.specs.List.{list_any};
 ghost use Rattle.station_lines.specs.Points.{count_of, due_at, due_line, due_of, is_owned, point_line, terms_of, watched_output, watched_points, watched_slot, watched_slots, word_of};
 ghost use Rattle.station_lines.specs.Details.{status_text};
+ghost use Rattle.station_lines.specs.Numbers.{numbers_text};
 ghost use Rattle.station_lines.specs.Reported.{answered, begun, first_place, is_behind, unreported};
 
+use crate::numbers::push_numbers;
 use crate::reported::ReportedPoints;
 use crate::status::push_status;
 use crate::watch::StationTraffic;
@@ -153,6 +155,20 @@ impl Points {
             ++ status_text at (D.table device.now) traffic.now self.now.points.items) }
     {
         push_status(out, device, traffic, self.points.as_slice(), at)
+    }
+
+    /// Appends the lines of the call `status --csv`: what was counted of the datagrams of each connection and slot.
+    pub fn push_numbers<D: Device>(
+        &self,
+        out: &mut String,
+        device: &D,
+        traffic: &StationTraffic,
+        at: EventMoment,
+    ) -> Result<(), OutOfMemory>
+        ensures { OnOk result (string_bytes out.new ≡ string_bytes out.old
+            ++ numbers_text at (D.table device.now) traffic.now self.now.points.items) }
+    {
+        push_numbers(out, device, traffic, self.points.as_slice(), at)
     }
 }
 

@@ -143,10 +143,7 @@ impl SharedIds {
             return;
         }
         let way = self.channel.way.lock(rt);
-        let path = match &way.file {
-            Some(file) => file.path(),
-            None => "",
-        };
+        let path = way.path();
         let line = format!(in rt.alloc();
             "eip_station: {path} cannot be written, so no further connection ids are reserved until it can\n"
         );
@@ -201,6 +198,14 @@ enum Taken {
 }
 
 impl Way {
+    /// The path of the state's file, unless that is in use.
+    fn path(&self) -> &str {
+        match &self.file {
+            Some(file) => file.path(),
+            None => "",
+        }
+    }
+
     /// Whether nothing is to be reserved now.
     fn is_resting(&self) -> bool {
         match self.life {

@@ -46,6 +46,12 @@ RECKONED = [
     ("['troubles', 'openings and ends', 'all'].map((kind) => isChosen({ words: 'slot 0 is timed out' }, kind, ''))", [True, True, True]),
     ("tableOf([{ ms: 5, v: 1 }, { ms: 6 }], (it) => it.ms * 1000, [['a b', (it) => it.v]])",
      "time,ms,a b\n1970-01-01T00:00:05.000Z,5,1\n1970-01-01T00:00:06.000Z,6,\n"),
+    # (10 / 4 is 2.5; a row without counts is left out)
+    (f"numbersOf(freshView(), {{ number: 7, ms: 900, connections: [{{ kind: 'exclusive', peer: 'a', consumed: 150, produced: 100, established: true, "
+     f"sent: 9, received: 8, lost: 1, time_outs: 2, gaps: {GAPS} }}, {{ kind: 'input', peer: 'b', consumed: 0, produced: 100, established: true }}] }})",
+     "event,ms,connection,peer,sent,received,lost,jitter_ms,longest_ms,time_outs\n7,900,exclusive a 150 100 0,a,9,8,1,2.5,20,2\n"),
+    (f"numbersOf(freshView(), {{ number: 1, ms: 5, slots: [{{ slot: 2, target: 'c', sent: 0, received: 4, lost: 0, time_outs: 0, gaps: {{ ...{GAPS}, count: 0, moved_ms: 0 }} }}] }})",
+     "event,ms,connection,peer,sent,received,lost,jitter_ms,longest_ms,time_outs\n1,5,slot 2,c,0,4,0,0.0,20,0\n"),
     # a trouble that a snapshot repeats is none; the station counts those of a life, and those of a later life are counted on
     ("(() => { const view = freshView(), one = { words: 'eip_station: gone', number: 1, ms: 4000, first_ms: 3000, count: 2 }; "
      "for (const it of [one, one, { ...one, number: 2, count: 3 }]) keepTrouble(view, { wall_ms: 100000, ms: 5000 }, it); view.lives = 1; "

@@ -64,12 +64,12 @@ options, whose value is the next word or follows =, as in --seconds=5:
   --page-writes  the page takes write, mode, start and stop, from who has the token in that line
   --page-host NAME  browsers reach the page by this name of the host too, as behind a proxy
 The station runs until its standard input ends, and at most N seconds. Each line of the input is a call:
-  write POINT HEX, read POINT, mode run, mode idle, start SLOT, stop SLOT, status
+  write POINT HEX, read POINT, mode run, mode idle, start SLOT, stop SLOT, status, status --csv
 and at a scanner, to read and to set an attribute of a target by decimal numbers, and to send any request to its message router:
   get NODE CLASS INSTANCE ATTRIBUTE, set NODE CLASS INSTANCE ATTRIBUTE HEX, explicit NODE NUMBER HEX
 and at an adapter with objects of its maker's own, to answer a printed request by its number, with a general status and data:
   answer NUMBER STATUS HEX
-A plant takes them behind the NAME of a device (a script all but get and set), and status alone for all; besides
+A plant takes them behind the NAME of a device (a script all but get and set), and status or status --csv alone for all; besides
   cut, pause MS, restart [same], send NODE HEX
 It prints the outcome of each call and of each event with a notice, in the lines of a trace, and for each output or
 image that has changed N at MS output POINT HEX or N at MS image SLOT HEX: the number of the last event, and the time.

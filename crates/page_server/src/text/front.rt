@@ -99,7 +99,8 @@ form button { background: var(--blue); color: #fff; border: 0; cursor: pointer; 
   <section class='wide of'><h2>Points</h2><div id='points'></div></section>
   <section class='wide of' id='rows'><h2 id='rows-title'>Connections</h2><div id='connections'></div>
     <button class='fold' id='fold' aria-expanded='false' aria-controls='earlier' hidden></button><div id='earlier' hidden></div></section>
-  <section class='wide of'><h2>Datagrams, gaps between them, and time-outs</h2><div id='gaps'></div></section>
+  <section class='wide of'><h2>Datagrams, gaps between them, and time-outs
+    <span class='tools'><button class='fold' id='save' title='what was counted of each'>save as a table</button></span></h2><div id='gaps'></div></section>
   <section class='wide of'><h2>The last three minutes <span class='tools'><button class='fold' id='freeze' aria-pressed='false'>freeze</button>
     <button class='fold' id='export' title='the numbers of the lines below, with their times'>save as a table</button></span></h2><canvas id='chart' role='img' aria-label='datagrams a second, and chosen bytes'></canvas>
     <div class='key' id='key'></div></section>
@@ -326,6 +327,17 @@ function tableOf(samples, wallOfSample, lines) {
   const head = ['time', 'ms', ...lines.map(([name]) => name)];
   const rows = samples.map((it) => [new Date(wallOfSample(it)).toISOString(), it.ms, ...lines.map(([, value]) => value(it) ?? '')]);
   return [head, ...rows].map((row) => row.join(',')).join(LF) + LF;
+}
+
+const NUMBER_HEADS = ['event', 'ms', 'connection', 'peer', 'sent', 'received', 'lost', 'jitter_ms', 'longest_ms', 'time_outs'];
+
+// what was counted of each connection or slot, with its key in place of an id
+function numbersOf(view, snapshot) {
+  const rows = rowsOf(view, snapshot).filter(([, it]) => it.gaps).map(([key, it]) => {
+    const { count, moved_ms, greatest_ms } = it.gaps, jitter = count ? Math.floor(10 * moved_ms / count) / 10 : 0;
+    return [snapshot.number, snapshot.ms, key, it.peer ?? it.target, it.sent, it.received, it.lost, jitter.toFixed(1), greatest_ms, it.time_outs];
+  });
+  return [NUMBER_HEADS, ...rows].map((row) => row.join(',')).join(LF) + LF;
 }
 </script>
 <script>

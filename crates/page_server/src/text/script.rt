@@ -462,12 +462,22 @@ byId('freeze').onclick = () => {
 byId('export').onclick = () => {
   const view = viewOf(shown), { samples, snapshot } = frozen ?? { samples: view.samples, snapshot: view.last };
   if (!snapshot) return;
-  const text = tableOf(samples, (it) => wallOf(snapshot, it.ms), linesOfChart(1)), link = element('a');
+  save('chart.csv', tableOf(samples, (it) => wallOf(snapshot, it.ms), linesOfChart(1)));
+};
+
+byId('save').onclick = () => {
+  const view = viewOf(shown);
+  if (view.last) save('numbers.csv', numbersOf(view, view.last));
+};
+
+// has the browser save a table
+function save(name, text) {
+  const link = element('a');
   link.href = URL.createObjectURL(new Blob([text], { type: 'text/csv' }));
-  link.download = 'chart.csv';
+  link.download = name;
   link.click();
   setTimeout(() => URL.revokeObjectURL(link.href), 10000);
-};
+}
 
 function drawChart(view, more) {
   const canvas = byId('chart'), scale = window.devicePixelRatio || 1;

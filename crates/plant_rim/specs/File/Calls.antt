@@ -64,6 +64,7 @@ abbrev pub step_of_line : InputLine → Option StationStep
 step_of_line (input.Call event) = Some (step.Call event)
 step_of_line (input.Attribute call) = Some (step.Ask call)
 step_of_line input.Status = Some step.Status
+step_of_line input.Numbers = Some step.Numbers
 step_of_line input.Skipped = None
 step_of_line input.NoCall = None
 

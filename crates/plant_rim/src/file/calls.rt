@@ -46,6 +46,7 @@ fn step_of_line(line: InputLine) -> Option<StationStep>
         InputLine::Call(event) => Some(StationStep::Call(event)),
         InputLine::Attribute(call) => Some(StationStep::Ask(call)),
         InputLine::Status => Some(StationStep::Status),
+        InputLine::Numbers => Some(StationStep::Numbers),
         InputLine::Skipped => None,
         InputLine::NoCall => None,
     }

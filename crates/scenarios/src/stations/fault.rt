@@ -2,6 +2,7 @@
 
 use cip_events::NewFault;
 use cip_types::OutOfMemory;
+use plant_rim::PlantFault;
 use station_record::RecordFault;
 use std::alloc::{AllocError, AllocFailed};
 use std::io;
@@ -48,6 +49,15 @@ impl From<TextFault> for StationRunFault {
         match fault {
             TextFault::Bad => StationRunFault::Line,
             TextFault::OutOfMemory => StationRunFault::OutOfMemory,
+        }
+    }
+}
+
+impl From<PlantFault> for StationRunFault {
+    fn from(fault: PlantFault) -> StationRunFault {
+        match fault {
+            PlantFault::BadLine(..) => StationRunFault::Line,
+            PlantFault::OutOfMemory => StationRunFault::OutOfMemory,
         }
     }
 }

@@ -2,6 +2,7 @@
 //!
 //! - `ends MS`: the station ends when so much time has passed; `quiet`: it says nothing of streams;
 //! - `room N`: it is recorded, and the record has room for N texts, its head with the profile counted;
+//! - `script LINE`: a line of the device's script;
 //! - `pass MS`: so much time passes at the next turn;
 //! - `line TEXT`, `tail TEXT`: the input has this line before the next turn, or this text without an LF;
 //! - `turn`, `turn EVENT`: a turn at which nothing arrives, or what an event's line of a trace says;
@@ -12,7 +13,9 @@ use crate::arrivals::{arrival_of, push};
 use crate::stations::fault::StationRunFault;
 use cip_events::Arrival;
 use cip_tables::Config;
-use cip_types::OutOfMemory;
+use cip_types::{Items, OutOfMemory};
+use plant_rim::read_script_file;
+use station::ScriptLine;
 use std::alloc::Global;
 use std::collections::VecDeque;
 use std::mem;
@@ -39,6 +42,7 @@ pub struct StationRun {
     pub quiet: bool,
     pub ends_ms: Option<u64>,
     pub room: Option<u64>,
+    pub script: Items<ScriptLine>,
     /// What the input has more before each turn, until it ends.
     pub inputs: VecDeque<Vec<u8>>,
     pub times_ms: VecDeque<u64>,
@@ -53,6 +57,7 @@ struct RunReader {
     quiet: bool,
     ends_ms: Option<u64>,
     room: Option<u64>,
+    script: String,
     inputs: VecDeque<Vec<u8>>,
     times_ms: VecDeque<u64>,
     arrivals: VecDeque<TurnArrival>,
@@ -60,6 +65,13 @@ struct RunReader {
     input: Vec<u8>,
     ms: u64,
     has_ended: bool,
+}
+
+/// Adds a line to a text.
+fn add_line(text: &mut String, line: &str) -> Result<(), OutOfMemory> {
+    text.push_str(line)?;
+    text.push('\n')?;
+    Ok(())
 }
 
 /// The text behind the first word of a line.
@@ -78,6 +90,7 @@ impl RunReader {
             quiet: false,
             ends_ms: None,
             room: None,
+            script: String::new(alloc),
             inputs: VecDeque::new(alloc),
             times_ms: VecDeque::new(alloc),
             arrivals: VecDeque::new(alloc),
@@ -130,13 +143,6 @@ impl RunReader {
         Ok(())
     }
 
-    /// Adds a line of the profile.
-    fn add_profile(&mut self, line: &str) -> Result<(), OutOfMemory> {
-        self.profile.push_str(line)?;
-        self.profile.push('\n')?;
-        Ok(())
-    }
-
     /// Adds a line.
     fn add(&mut self, line: &str) -> Result<(), StationRunFault> {
         let mut words = Words::of(line);
@@ -151,17 +157,18 @@ impl RunReader {
         Ok(())
     }
 
-    /// Adds a line of the input or of a turn, or one of the profile.
+    /// Adds a line of the input, of the script or of a turn, or one of the profile.
     fn add_step(&mut self, line: &str, words: Words<'_>) -> Result<(), StationRunFault> {
         let mut words = words;
         match line.split(' ').next() {
             Some("line") => self.add_input(rest_of(line), "\n")?,
             Some("tail") => self.add_input(rest_of(line), "")?,
+            Some("script") => add_line(&mut self.script, rest_of(line))?,
             Some("turn") if line.len() == 4 => self.add_turn(TurnArrival::Nothing)?,
             Some("turn") => self.add_arrival(rest_of(line))?,
             Some("refuses") => self.add_turn(TurnArrival::Refusal)?,
             Some("fails") => self.add_failures(u64::from(words.u32()?))?,
-            _ => self.add_profile(line)?,
+            _ => add_line(&mut self.profile, line)?,
         }
         Ok(())
     }
@@ -174,6 +181,7 @@ impl RunReader {
             quiet,
             ends_ms,
             room,
+            script,
             inputs,
             times_ms,
             arrivals,
@@ -185,6 +193,7 @@ impl RunReader {
             quiet,
             ends_ms,
             room,
+            script: read_script_file(alloc, script.as_bytes())?,
             inputs,
             times_ms,
             arrivals,

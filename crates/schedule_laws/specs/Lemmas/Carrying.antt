@@ -36,7 +36,7 @@ use Rattle.segment_world.specs.Transit.Streams.{QueueItem, Opening as Opens, Que
 use Rattle.device_laws.specs.Ids.{RequestIds, ReplyIds, PacketIds, MessageIds, FrameIds, ReadId, DatagramId, RowIds, Class3Ids, EventIds, WayIds, AnsweredIds, RequestedId, StateIds}
 use Rattle.device_laws.specs.Carrying.{Passes, SlotIds, TableIds, HasClass3Ids, AnswerPasses}
 use Rattle.device_laws.specs.Lemmas.Payloads.{own_ids}
-use Rattle.device_laws.specs.Plain.{IsPlainFrame, IsPlainDevice, IsPlainEvent, ArePlain}
+use Rattle.device_laws.specs.Plain.{HasPlainService, PacketHasPlainService, MessageHasPlainService, FrameHasPlainService, IsPlainRequest, PlainPacket, PlainMessage, IsPlainFrame, IsPlainDevice, IsPlainEvent, ArePlain}
 use Rattle.device_laws.specs.Replies.{PlainFor, IsOfStream}
 use Rattle.schedule_laws.specs.Ids.{any_stream, ItemHolds, StreamHolds, StreamsHold}
 use Rattle.schedule_laws.specs.Lemmas.Lists.{all_more}
@@ -118,6 +118,26 @@ event_more P Q more (Request peer bytes) holds = holds
 event_more P Q more (Frame stream bytes) holds = frame_more P Q more bytes holds
 event_more P Q more other holds = tt
 
+-- ---- a plain frame asks no object for the service of an opening
+
+request_asks : (request : RouterRequestFields) → IsPlainRequest request → HasPlainService request
+request_asks nothing plain = tt
+request_asks (refused service why) plain = tt
+request_asks (closing request) plain = tt
+request_asks (object service class instance attribute body) plain = plain
+request_asks (opening large request) plain = tt
+
+packet_asks : (reading : Result PacketFields ItemFault) → PlainPacket reading → PacketHasPlainService reading
+packet_asks (Err fault) plain = tt
+packet_asks (Ok packet) plain = request_asks (router_request_reading packet.payload) plain
+
+message_asks : (reading : Result MessageFields EncapFault) → PlainMessage reading → MessageHasPlainService reading
+message_asks (Err fault) plain = tt
+message_asks (Ok m) plain = packet_asks (any_packet_reading m.payload) plain
+
+pub frame_asks_plainly : (bytes : List ℕ) → IsPlainFrame bytes → FrameHasPlainService bytes
+frame_asks_plainly bytes plain = message_asks (message_reading bytes) plain
+
 -- ---- frames of which two properties hold
 
 pub event_first : (P R : List ℕ → Type 0) (happens : Event) → EventHolds (λ bytes. P bytes × R bytes) happens → EventHolds P happens
@@ -125,7 +145,7 @@ event_first P R (Request peer bytes) holds = holds
 event_first P R (Frame stream bytes) holds = holds.0
 event_first P R other holds = tt
 
-pub event_plain : (P : List ℕ → Type 0) (happens : Event) → EventHolds (λ bytes. P bytes × IsPlainFrame bytes) happens → IsPlainEvent any_stream happens
+pub event_plain : (P : List ℕ → Type 0) (happens : Event) → EventHolds (λ bytes. P bytes × FrameHasPlainService bytes) happens → IsPlainEvent any_stream happens
 event_plain P (Request peer bytes) holds = holds
 event_plain P (Frame stream bytes) holds = λ over. holds.1
 event_plain P other holds = tt

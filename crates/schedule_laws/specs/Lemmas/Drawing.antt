@@ -23,13 +23,13 @@ use Rattle.segment_world.specs.World.{World, ReportedEvent, Happened, node_at, s
 use Rattle.segment_world.specs.Story.{Story, goes_on, runs}
 use Rattle.cip_events.specs.declared.event.Frame.{Frame}
 use Rattle.device_laws.specs.Ids.{FrameIds, HasFrameIds, HasDatagramId}
-use Rattle.device_laws.specs.Plain.{IsPlainFrame, SendsPlainly, IsPlainDevice, PlainDevicesStayPlain}
+use Rattle.device_laws.specs.Plain.{FrameHasPlainService, SendsPlainly, IsPlainDevice, PlainDevicesStayPlain}
 use Rattle.device_laws.specs.Carrying.{Passes, TableIds, HasClass3Ids, StepsCarryIds, StepsCarryClass3Ids}
 use Rattle.schedule_laws.specs.Ids.{is_drawn, any_stream, StreamsHold, SentHolds, IsDrawnFrame, IdsAreDrawn, SchedulesKeepIdsDrawn}
 use Rattle.schedule_laws.specs.Lives.{AreApart}
 use Rattle.schedule_laws.specs.Lemmas.Lists.{all_both, all_more}
 use Rattle.schedule_laws.specs.Lemmas.Moves.{answered_holds, Came, Rests, Moves, act_moves, runs_keep}
-use Rattle.schedule_laws.specs.Lemmas.Carrying.{More, frame_more, datagram_more, table_more, class3_more, streams_more, event_more, event_first, event_plain, answer_passes}
+use Rattle.schedule_laws.specs.Lemmas.Carrying.{More, frame_more, datagram_more, table_more, class3_more, streams_more, event_more, event_first, event_plain, frame_asks_plainly, answer_passes}
 use Rattle.schedule_laws.specs.Lemmas.Tests.{apart_before, drawn_fits, drawn_more, now_drawn, set_cases, whole_begins, whole_in_range, zero_drawn}
 
 -- the laws of the steps of devices
@@ -62,9 +62,9 @@ sent_more : (node : Node) (P : ℕ → Type 0) (datagrams : List OutgoingDatagra
 sent_more node P [] ids = tt
 sent_more node P (outgoing ∷ datagrams) ids = (ids.0, sent_more node P datagrams ids.1)
 
-all_pairs : (P R : Frame → Type 0) (xs : List Frame) → AllByRecursion P xs → AllByRecursion R xs → AllByRecursion (λ x. P x × R x) xs
-all_pairs P R [] first second = tt
-all_pairs P R (x ∷ xs) first second = ((first.0, second.0), all_pairs P R xs first.1 second.1)
+frames_drawn : (tables : List DeviceTable) (frames : List Frame) → AllByRecursion (HasFrameIds (Passes (is_drawn tables))) frames → AllByRecursion SendsPlainly frames → AllByRecursion (λ (f : Frame). IsDrawnFrame tables f.bytes) frames
+frames_drawn tables [] ids plain = tt
+frames_drawn tables (frame ∷ frames) ids plain = ((ids.0, frame_asks_plainly frame.bytes plain.0), frames_drawn tables frames ids.1 plain.1)
 
 came_drawn : StepLaws → (q : Openings) (w new : World) (reported : ReportedEvent) → Drawn q w → Came (IsDrawnFrame w.tables) w reported new → Drawn q new
 came_drawn laws q w new reported drawn came =
@@ -90,13 +90,13 @@ came_drawn laws q w new reported drawn came =
     (λ id passes. drawn_fits tables id all_whole passes) (zero_drawn tables)
     (λ number from below. now_drawn w.tables reported.device came.before came.after number at (omega (arith, begins, from)) below)
     (λ n from below. drawn.opens reported.device came.before at n from)
-    (event_more (Passes (is_drawn w.tables)) now more reported.event (event_first (FrameIds (Passes (is_drawn w.tables))) IsPlainFrame reported.event came.event))
+    (event_more (Passes (is_drawn w.tables)) now more reported.event (event_first (FrameIds (Passes (is_drawn w.tables))) FrameHasPlainService reported.event came.event))
     (answer_passes (is_drawn tables) came.before reported.event (drawn.plain reported.device came.before at))
     (table_more (is_drawn w.tables) (is_drawn tables) (q reported.device) more came.before (drawn.tables reported.device came.before at)) in
     let messages = laws.class3 (is_drawn tables) came.before reported.event reported.answer came.after came.stepped
     (λ number from below within. subst (λ (id : ConnId). Passes (is_drawn tables) id.0) (grows.same number (omega (arith, begins, from)) (omega (arith, within)))
     (now_drawn w.tables reported.device came.before came.after number at (omega (arith, begins, from)) below))
-    (event_more (Passes (is_drawn w.tables)) now more reported.event (event_first (FrameIds (Passes (is_drawn w.tables))) IsPlainFrame reported.event came.event))
+    (event_more (Passes (is_drawn w.tables)) now more reported.event (event_first (FrameIds (Passes (is_drawn w.tables))) FrameHasPlainService reported.event came.event))
     (class3_more (is_drawn w.tables) (is_drawn tables) more came.before (drawn.class3 reported.device came.before at)) in
     let plainly = laws.plain any_stream came.before reported.event reported.answer came.after came.stepped whole_t (event_plain (FrameIds (Passes (is_drawn w.tables))) reported.event came.event) (drawn.plain reported.device came.before at) in
     subst (Drawn q) (sym came.leaves) (record {
@@ -116,7 +116,7 @@ came_drawn laws q w new reported drawn came =
       sent = all_both (SentHolds now) w.sent (map (sent_by (node_at w reported.device)) reported.answer.datagrams)
           (all_more (SentHolds (Passes (is_drawn w.tables))) (SentHolds now) (λ s id. datagram_more (Passes (is_drawn w.tables)) now more s.bytes id) w.sent drawn.sent)
           (sent_more (node_at w reported.device) now reported.answer.datagrams done.1.datagrams);
-      streams = answered_holds (IsDrawnFrame tables) reported.device reported.answer came.streams (all_pairs (HasFrameIds now) SendsPlainly reported.answer.frames done.1.frames plainly.1)
+      streams = answered_holds (IsDrawnFrame tables) reported.device reported.answer came.streams (frames_drawn tables reported.answer.frames done.1.frames plainly.1)
           (streams_more (IsDrawnFrame w.tables) (IsDrawnFrame tables) (λ bytes is. (frame_more (Passes (is_drawn w.tables)) now more bytes is.0, is.1)) came.streams came.queued);
       plain = λ e x there. elim (set_cases w.tables reported.device e came.before came.after x at there) [
         | inl own ↦ subst (IsPlainDevice any_stream) (sym own.1) plainly.0

@@ -32,6 +32,7 @@ use Rattle.device_laws.specs.RowIds.{ConnectionsKeepTheirIds}
 use Rattle.device_laws.specs.SlotIds.{SlotsHaveTheIdsOfTheirSuccess}
 use Rattle.device_laws.specs.TargetStreams.{StreamsComeWithEvents}
 use Rattle.schedule_laws.specs.Ids.{is_drawn, any_opening, any_stream, AreDrawnApart, IdsAreDrawn}
+use Rattle.schedule_laws.specs.Lemmas.Carrying.{frame_asks_plainly}
 use Rattle.schedule_laws.specs.Lemmas.Drawing.{StepLaws}
 use Rattle.schedule_laws.specs.Lemmas.Tests.{drawn_fits, set_cases}
 use Rattle.device_laws.specs.Made.{Made, makes, adapter_makes}
@@ -154,10 +155,10 @@ adapter_makes_later : (w : World) (opened more : List Opened) (device : ℕ) (t 
 adapter_makes_later w opened more device t happens named =
     all_more (MadeByEntry opened device) (MadeByEntry (opened ++ more) device) (λ m is. made_later opened more device m is) (adapter_makes t happens) (adapter_makes_named w opened device t happens named.rows)
 
--- a frame that comes is plain
+-- a frame that comes asks no object for the service of an opening
 arrived_plain : (w : World) (opened : List Opened) (device : ℕ) (happens : Event) → EventArrives (Waits w opened) w device happens → IsPlainEvent any_stream happens
 arrived_plain w opened device (event.Request peer bytes) comes = comes
-arrived_plain w opened device (event.Frame n bytes) comes = λ over. let waits = comes.holds in waits.plain
+arrived_plain w opened device (event.Frame n bytes) comes = λ over. let waits = comes.holds in frame_asks_plainly bytes waits.plain
 arrived_plain w opened device other comes = tt
 
 event_leaves : NameLaws → (w new : World) (opened : List Opened) (device : ℕ) (t u : DeviceTable) (happens : Event) (answer : Answer) → step t happens ≡ Ok (answer, u) → DeviceStays t u → slice_get w.tables device ≡ Some t → slice_get new.tables device ≡ Some u → Later w new → IdsAreDrawn w → AreDrawnApart new → AllByRecursion (IsEntry w opened) opened → IdsAreApart opened → TableIsNamed w opened device t → EventArrives (Waits w opened) w device happens → EventLeaves w new opened (frame_opens w device t happens u) device t u happens answer

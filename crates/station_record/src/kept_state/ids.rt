@@ -1,7 +1,7 @@
 //! The connection ids of a station: from where on none was given, and the block that it reserves next.
 
-ghost use Rattle.std.specs.Prelude.{◌≡◌, ◌<◌, ◌≤◌, ◌^◌};
-ghost use Rattle.station_record.specs.KeptState.Ids.{behind, drawn_ids, ends_circle, given_back, life_block, next_block, unused_ids, wants_block, with_reserved, IsKept};
+ghost use Rattle.std.specs.Prelude.{◌≡◌, ◌+◌, ◌≤◌, ◌^◌};
+ghost use Rattle.station_record.specs.KeptState.Ids.{behind, drawn_ids, ends_circle, given_back, life_block, next_block, unused_ids, wants_block, with_reserved};
 
 use cip_types::IdBlock;
 
@@ -32,19 +32,18 @@ impl KeptIds {
 
     /// The block that is reserved next. It ends with the last id of all, if it would go over that.
     pub fn next_block(&self) -> IdBlock
-        requires { 1 ≤ self.now.from }
         ensures { result ≡ next_block self.now }
     {
-        let behind = (1u64 << 32) - u64::from(self.from);
+        let KeptIds { from, .. } = *self;
+        let behind = (1u64 << 32) - u64::from(from);
         IdBlock {
-            first: self.from,
+            first: from,
             count: behind.min(u64::from(BLOCK_IDS)) as u32,
         }
     }
 
     /// Whether the next block has ids that were given: fewer are left than it has.
     pub fn ends_circle(&self) -> bool
-        requires { 1 ≤ self.now.from }
         ensures { result ≡ ends_circle self.now }
     {
         self.left < self.next_block().count
@@ -52,7 +51,6 @@ impl KeptIds {
 
     /// What is kept once the next block is reserved.
     pub fn with_reserved(&self) -> KeptIds
-        requires { IsKept self.now }
         ensures { result ≡ with_reserved self.now }
     {
         let block = self.next_block();
@@ -69,11 +67,10 @@ impl KeptIds {
 
     /// What is kept where so many ids of what was reserved were not given.
     pub fn given_back(&self, unused: u32) -> KeptIds
-        requires { IsKept self.now }
         ensures { result ≡ given_back self.now unused }
     {
         let all = u64::from(ALL_IDS);
-        let place = (u64::from(self.from) - 1 + all - u64::from(unused)) % all;
+        let place = (u64::from(self.from.saturating_sub(1)) + all - u64::from(unused)) % all;
         KeptIds {
             from: place as u32 + 1,
             left: self.left.saturating_add(unused),

@@ -13,7 +13,7 @@ use Rattle.scanner.proofs.Undone.{same_table, undone_follows, is_fresh}
 use Rattle.scanner.proofs.slots.ScannerSlots.advance_by.Goals as goal
 
 pub begin-transaction-requires : goal.begin-transaction-requires
-begin-transaction-requires c = record { faultless = c.requires.whole.faultless; time = c.requires.whole.clock }
+begin-transaction-requires c = record { faultless = c.requires.whole.faultless; time = c.requires.whole.clock; blocks = c.requires.whole.blocks; begins = c.requires.whole.ids_begin }
 
 pub moved_on-requires-clause-whole : goal.moved_on-requires-clause-whole
 moved_on-requires-clause-whole c = subst IsWellFormed (sym (ap (λ (d : Progress). d.table) c.begin-transaction.ensures.effect)) c.requires.whole

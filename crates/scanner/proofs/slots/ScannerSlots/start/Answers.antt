@@ -9,7 +9,7 @@ use Rattle.scanner.proofs.Undone.{bounded_on, same_table, same_profile, undone_f
 use Rattle.scanner.proofs.slots.ScannerSlots.start.Goals as goal
 
 pub begin-transaction-requires : goal.begin-transaction-requires
-begin-transaction-requires g c = record { faultless = c.requires.faultless; time = c.requires.clock }
+begin-transaction-requires g c = record { faultless = c.requires.faultless; time = c.requires.clock; blocks = c.requires.blocks; begins = c.requires.ids_begin }
 
 pub returns-in-Ok-clause-step : goal.returns-in-Ok-clause-step
 returns-in-Ok-clause-step g c =

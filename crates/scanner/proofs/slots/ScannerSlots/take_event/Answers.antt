@@ -14,3 +14,6 @@ returns-in-Stop-clause-hints g c = c.stop.ensures.hints c.requires.hints
 
 pub returns-in-Explicit-clause-hints : goal.returns-in-Explicit-clause-hints
 returns-in-Explicit-clause-hints g c = c.request_explicit.ensures.hints _ c.requires.hints
+
+pub returns-in-Ids-clause-hints : goal.returns-in-Ids-clause-hints
+returns-in-Ids-clause-hints g c = c.take_ids.ensures.hints _ c.requires.hints

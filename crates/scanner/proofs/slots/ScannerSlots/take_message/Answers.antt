@@ -14,7 +14,7 @@ use Rattle.scanner.proofs.Undone.{answered_on, same_table, undone_follows, is_fr
 use Rattle.scanner.proofs.slots.ScannerSlots.take_message.Goals as goal
 
 pub begin-transaction-requires : goal.begin-transaction-requires
-begin-transaction-requires g c = record { faultless = c.requires.faultless; time = c.requires.clock }
+begin-transaction-requires g c = record { faultless = c.requires.faultless; time = c.requires.clock; blocks = c.requires.blocks; begins = c.requires.ids_begin }
 
 pub receive_message-requires : goal.receive_message-requires
 receive_message-requires g c = is_fresh c.begin-transaction.result (table_in c.args.self.now) c.begin-transaction.ensures.effect

@@ -8,12 +8,9 @@ use Rattle.scanner_slots.specs.Views.{view_slot}
 use Rattle.scanner_transactions.specs.Transactions.{Progress, view_transaction, open_requested_within}
 use Rattle.scanner_requests.specs.Lemmas.Waits.{open_timeout_fits}
 use Rattle.scanner_transactions.proofs.Found.{found}
-use Rattle.scanner_transactions.proofs.RequestSteps.{requests_open, left_for, lengths_at, within}
+use Rattle.scanner_transactions.proofs.RequestSteps.{requests_open, id_follows, left_for, lengths_at, within}
 use Rattle.scanner_transactions.proofs.Steps.{none_found}
 use Rattle.scanner_transactions.proofs.transaction.Transaction.request_open.Goals as goal
-
-pub next_requested-requested-requires : goal.next_requested-requested-requires
-next_requested-requested-requires c = (left_for (view_transaction c.args.self.now).table c.args.number (view_slot c.in-Some.indexed) (c.in-Some.ensures.found) c.requires.left).1
 
 pub open_frame-requires-clause-time : goal.open_frame-requires-clause-time
 open_frame-requires-clause-time c = open_timeout_fits c.args.self.now.profile.now c.args.self.now.faultless
@@ -25,7 +22,7 @@ pub later-requires-clause-wait : goal.later-requires-clause-wait
 later-requires-clause-wait c = open_timeout_fits c.args.self.now.profile.now c.args.self.now.faultless
 
 pub id_after-self-requires : goal.id_after-self-requires
-id_after-self-requires c = (left_for (view_transaction c.args.self.now).table c.args.number (view_slot c.in-Some.indexed) (c.in-Some.ensures.found) c.requires.left).1
+id_after-self-requires c = id_follows c.in-Some.indexed.config.now.multicast c.args.self.now.scanner.next_id c.args.self.now.scanner.ids.items (left_for (view_transaction c.args.self.now).table c.args.number (view_slot c.in-Some.indexed) (c.in-Some.ensures.found) c.requires.left).1
 
 pub send_request-requires : goal.send_request-requires
 send_request-requires c = record { left = within c.args.self.now.scanner.next_request 281474976710656 (left_for (view_transaction c.args.self.now).table c.args.number (view_slot c.in-Some.indexed) (c.in-Some.ensures.found) c.requires.left).0 }

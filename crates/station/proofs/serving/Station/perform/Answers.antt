@@ -40,3 +40,9 @@ returns-in-Say-clause-recorded g c = at_rest (g.W.RecordSink.contents) (g.P.Port
 
 pub returns-in-Say-clause-done : goal.returns-in-Say-clause-done
 returns-in-Say-clause-done g c = always _ _ (done_as (g.W.RecordSink.contents) (g.P.Port.is_scripted) (g.C.Clock.is_scripted) (g.C.Clock.coming) (g.P.Port.tape) (g.P.Port.failed) (g.D.Device.table) (Rest ∷ []) _ _ _ (ap (tasks_of (number_of c.args.self.now)) c.in-Say.is) (rested (g.W.RecordSink.contents) (g.P.Port.is_scripted) (g.C.Clock.is_scripted) (g.C.Clock.coming) (g.P.Port.tape) (g.P.Port.failed) (g.D.Device.table) _ _ c.print_said.ensures))
+
+pub returns-in-Numbers-clause-recorded : goal.returns-in-Numbers-clause-recorded
+returns-in-Numbers-clause-recorded g c = at_rest (g.W.RecordSink.contents) (g.P.Port.is_scripted) (g.C.Clock.is_scripted) (g.C.Clock.coming) (g.P.Port.tape) (g.P.Port.failed) (g.D.Device.table) _ _ c.print_numbers.ensures
+
+pub returns-in-Numbers-clause-done : goal.returns-in-Numbers-clause-done
+returns-in-Numbers-clause-done g c = always _ _ (done_as (g.W.RecordSink.contents) (g.P.Port.is_scripted) (g.C.Clock.is_scripted) (g.C.Clock.coming) (g.P.Port.tape) (g.P.Port.failed) (g.D.Device.table) (Rest ∷ []) _ _ _ (ap (tasks_of (number_of c.args.self.now)) c.in-Numbers.is) (rested (g.W.RecordSink.contents) (g.P.Port.is_scripted) (g.C.Clock.is_scripted) (g.C.Clock.coming) (g.P.Port.tape) (g.P.Port.failed) (g.D.Device.table) _ _ c.print_numbers.ensures))
