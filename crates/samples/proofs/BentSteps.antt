@@ -23,6 +23,7 @@ use Rattle.device_laws.specs.Frames.{OpeningsAre}
 use Rattle.device_laws.specs.OwnIds.{AsksOwnId}
 use Rattle.device_laws.specs.OwnStreams.{GoesOverItsOwn}
 use Rattle.device_laws.specs.Replies.{IsNoSuccess}
+use Rattle.device_laws.specs.Requests.{is_between}
 use Rattle.device_laws.specs.RowIds.{Came}
 use Rattle.device_laws.specs.Made.{Made, scanner_makes}
 use Rattle.device_laws.specs.ProductionRuns.{OpeningsDiffer}
@@ -225,11 +226,11 @@ abbrev DrawnIn : Chronicle → Type 0
 DrawnIn c = IdsAreDrawn c.story.world
 
 ids_are_drawn : observed (λ c. all_sent_drawn c.story.world) (played owned twice_written) ≡ Some true
-unfolding playing
+unfolding playing is_between
 ids_are_drawn = refl
 
 undrawn_fails : observed (λ c. all_sent_drawn (sent_undrawn c).story.world) (played owned twice_written) ≡ Some false
-unfolding playing
+unfolding playing is_between
 undrawn_fails = refl
 
 an_id_to_come_is_refused : LawAt DrawnIn sent_undrawn (played owned twice_written) → ⊥
