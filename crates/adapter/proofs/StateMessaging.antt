@@ -36,7 +36,7 @@ goes_settled t id count number text short =
       one = omega arith;
       left = λ few. few;
       sound = λ rows sound. record {
-        own = answered_sound t.profile.incarnation t.next_id (replied t.messaging id count text) number (replied_sound t.profile.incarnation t.next_id t.messaging id count text sound.own);
+        own = answered_sound t.ids t.next_id (replied t.messaging id count text) number (replied_sound t.ids t.next_id t.messaging id count text sound.own);
         class3_connections = keeps.class3_connections sound.class3_connections;
         waiting = keeps.waiting sound.waiting;
       };

@@ -3,11 +3,8 @@ use Rattle.std.proofs.Common.{◌≡◌, ℕ, ◌==◌, ◌||◌, not, Bool, tru
 use Rattle.std.specs.Prelude.{filter}
 use Rattle.std.proofs.lemmas.Bool.Decides.{nat_tests}
 use Rattle.std.proofs.lemmas.List.Folds.{list_any-append}
+use Rattle.base_lemmas.specs.Booleans.{or_false}
 use Rattle.line_threads.specs.Openings.{distinct, has, other_than, without}
-
-or_false : (b : Bool) → (b || false) ≡ b
-or_false true = refl
-or_false false = refl
 
 equal : (n m : ℕ) → (n == m) ≡ true → n ≡ m
 equal n m is = grind (arith, nat_tests)

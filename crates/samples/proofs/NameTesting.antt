@@ -157,8 +157,9 @@ id_of id = record { 0 = id }
 near : (block : IdBlock) (blocks : List IdBlock) (number : ℕ) → number ≤ block.count → id_at (block ∷ blocks) number ≡ id_of (block.first + (number - 1))
 near block blocks number to = ap (λ (b : Bool). cond b (id_of (block.first + (number - 1))) (id_at blocks (number - block.count))) (le-leb number block.count to)
 
-far : (block : IdBlock) (blocks : List IdBlock) (number : ℕ) → block.count < number → id_at (block ∷ blocks) number ≡ id_at blocks (number - block.count)
-far block blocks number from = ap (λ (b : Bool). cond b (id_of (block.first + (number - 1))) (id_at blocks (number - block.count))) (lt-leb number block.count from)
+-- behind the first block
+id_behind : (block : IdBlock) (blocks : List IdBlock) (number : ℕ) → block.count < number → (id_at (block ∷ blocks) number).0 ≡ (id_at blocks (number - block.count)).0
+id_behind block blocks number from = ap (λ (b : Bool). (cond b (id_of (block.first + (number - 1))) (id_at blocks (number - block.count))).0) (lt-leb number block.count from)
 
 -- the first number of an id is no later than another one, and has the id
 pub record IsFirstNumber (ids : List IdBlock) (number id : ℕ) : Type 0 where
@@ -191,7 +192,7 @@ first_step false block blocks id number has within past from later =
     record {
       begins = omega (arith, is_k, begins);
       first = omega (arith, is_k, first, more);
-      is = ap (λ (n : ℕ). (id_at (block ∷ blocks) n).0) is_k ∙ ap (λ (c : ConnId). c.0) (far block blocks (block.count + number_of id blocks) (omega (arith, begins)))
+      is = ap (λ (n : ℕ). (id_at (block ∷ blocks) n).0) is_k ∙ id_behind block blocks (block.count + number_of id blocks) (omega (arith, begins))
           ∙ ap (λ (n : ℕ). (id_at blocks n).0) (back block.count (number_of id blocks)) ∙ rest.is;
     }
   where
@@ -211,7 +212,7 @@ first_number (block ∷ blocks) number id from to is =
     ] in
     first_step (has_id id block) block blocks id number refl within past from (λ none.
     let more = past none in
-    first_number blocks (number - block.count) id (omega (arith, more)) (omega (arith, to)) (ap (λ (c : ConnId). c.0) (sym (far block blocks number more)) ∙ is))
+    first_number blocks (number - block.count) id (omega (arith, more)) (omega (arith, to)) (sym (id_behind block blocks number more) ∙ is))
 
 -- an id that the scanner has is of its blocks
 numbered : (t : ScannerTable) (id : ℕ) → IsDrawnId t.ids id → (is_numbered t (number_of id t.ids) && (id_at t.ids (number_of id t.ids)).0 == id) ≡ true

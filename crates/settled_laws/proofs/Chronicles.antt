@@ -21,7 +21,7 @@ use Rattle.schedule_laws.specs.Lemmas.Stories.{chronicle_runs, story_in}
 use Rattle.settling.specs.Search.Histories.{configs_of, events_of_all}
 use Rattle.settling.specs.Search.Schedules.{Projects}
 use Rattle.settling.specs.Settlings.{AllStand}
-use Rattle.settled_laws.specs.Settled.{SchedulesHaveChronicles, IsInOrder, SettledLinesAreInOrder, SettledWithoutIdsAreApart, SettledWithoutIdsAreInOrder}
+use Rattle.settled_laws.specs.Settled.{SchedulesHaveChronicles, IsInOrder, SettledHistoriesAreApart, SettledLinesAreInOrder, SettledWithoutIdsAreApart, SettledWithoutIdsAreInOrder, WhatSettlesApartIsInOrder}
 
 -- ---- a schedule without a fault
 
@@ -98,3 +98,9 @@ without_ids_apart law hs rs acts faultless unstated none settles =
 pub without_ids_in_order : SettledWithoutIdsAreApart → SettledLinesAreInOrder → SettledWithoutIdsAreInOrder
 without_ids_in_order apart order hs rs acts faultless unstated none settles =
     order hs rs acts faultless settles (apart hs rs acts faultless unstated none settles)
+
+-- ---- where the devices share no ids
+
+pub settled_in_order : SettledHistoriesAreApart → SettledLinesAreInOrder → WhatSettlesApartIsInOrder
+settled_in_order apart order hs rs acts settles =
+    order hs rs acts settles.valid settles.settles (apart hs rs acts settles.apart settles.settles)

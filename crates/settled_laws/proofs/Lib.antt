@@ -1,1 +1,2 @@
 mod Chronicles
+mod SharedIds

@@ -20,7 +20,8 @@ use Rattle.schedule_laws.specs.Images.{ImagesAreInOrder, ImagesWereGathered}
 use Rattle.schedule_laws.specs.Outputs.{OutputsAreInOrder}
 use Rattle.settling.specs.Search.Histories.{configs_of, events_of_all}
 use Rattle.settling.specs.Search.Schedules.{Projects}
-use Rattle.settling.specs.Settlings.{AllStand, SettlesAll}
+use Rattle.settling.specs.Settlings.{AllStand, SettlesAll, SettlesApart}
+use Rattle.settling.specs.SharedIds.{ShareNoIds}
 
 -- THE CHRONICLE
 
@@ -38,6 +39,12 @@ abbrev pub SchedulesHaveChronicles : Type 0
 SchedulesHaveChronicles =
     (hs : List HistoryValue) (rs : List Receipt) (acts : List Act) → world_fault (configs_of hs) ≡ None →
     (settles : SettlesAll hs rs acts) → AreApart settles.settled.story.world.tables → HasChronicle hs rs acts
+
+-- Two devices have none in common there, if they have none in common after their histories.
+abbrev pub SettledHistoriesAreApart : Type 0
+SettledHistoriesAreApart =
+    (hs : List HistoryValue) (rs : List Receipt) (acts : List Act) → ShareNoIds hs →
+    (settles : SettlesAll hs rs acts) → AreApart settles.settled.story.world.tables
 
 -- If no configuration states its ids, and no act of the schedule gives a device a further block, no two devices have connection ids
 -- in common.
@@ -79,3 +86,7 @@ abbrev pub SettledWithoutIdsAreInOrder : Type 0
 SettledWithoutIdsAreInOrder =
     (hs : List HistoryValue) (rs : List Receipt) (acts : List Act) → world_fault (configs_of hs) ≡ None → StateNoIds (configs_of hs) → GiveNoIds acts →
     SettlesAll hs rs acts → HappenedInOrder hs rs acts
+
+-- So it is where histories and receipts settle, and no two devices have connection ids in common: nothing else is asked.
+abbrev pub WhatSettlesApartIsInOrder : Type 0
+WhatSettlesApartIsInOrder = (hs : List HistoryValue) (rs : List Receipt) (acts : List Act) → SettlesApart hs rs acts → HappenedInOrder hs rs acts

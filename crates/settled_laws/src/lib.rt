@@ -2,7 +2,7 @@
 //! of it. Each call does nothing: its contract is the law.
 #![tactic(auto)]
 
-ghost use Rattle.settled_laws.specs.Settled.{SchedulesHaveChronicles, SettledLinesAreInOrder, SettledWithoutIdsAreApart, SettledWithoutIdsAreInOrder};
+ghost use Rattle.settled_laws.specs.Settled.{SchedulesHaveChronicles, SettledHistoriesAreApart, SettledLinesAreInOrder, SettledWithoutIdsAreApart, SettledWithoutIdsAreInOrder, WhatSettlesApartIsInOrder};
 
 use schedule_laws::{
     an_id_names_one_opening, an_id_names_one_producer, an_id_opens_one_connection,
@@ -10,6 +10,7 @@ use schedule_laws::{
     images_are_in_order, images_hold_accepted_data, outputs_are_as_written,
     productions_are_numbered, schedules_without_ids_are_apart, streams_follow_their_marks,
 };
+use segment_world::laws::projections_are_runs;
 
 /// A schedule that settles histories and receipts has a chronicle. In its story the events of each device are the device's
 /// history, and each receipt stands at its place with the schedule's answer.
@@ -57,5 +58,24 @@ pub fn settled_lines_without_ids_are_in_order()
     ensures { SettledWithoutIdsAreInOrder }
 {
     settled_devices_without_ids_are_apart();
+    settled_lines_are_in_order();
+}
+
+/// No two devices of a settled schedule have connection ids in common, if none have one in common after their histories: a device
+/// holds the blocks at the schedule's end to which its own events lead.
+///
+/// Volume 1, chapter 3, network connection ids.
+pub fn settled_histories_are_apart()
+    ensures { SettledHistoriesAreApart }
+{
+    projections_are_runs();
+}
+
+/// So the laws of order hold of what settles, if no two devices have connection ids in common after their histories, and nothing
+/// else is asked.
+pub fn what_settles_apart_is_in_order()
+    ensures { WhatSettlesApartIsInOrder }
+{
+    settled_histories_are_apart();
     settled_lines_are_in_order();
 }

@@ -4,6 +4,7 @@ use Rattle.std.specs.List.{list_any}
 use Rattle.std.proofs.lemmas.Bool.{cases_lt}
 use Rattle.std.proofs.lemmas.Bool.Decides.{nat_tests}
 use Rattle.std.proofs.lemmas.List.{length-replicate, append-nil, append_assoc, take_more, drop_more, take-append-drop}
+use Rattle.base_lemmas.specs.Booleans.{or_false, or_true}
 use Rattle.cip_events.specs.declared.event.Answer.{Answer}
 use Rattle.cip_events.specs.declared.event.Event.{Event}
 use Rattle.cip_events.specs.declared.event.StepFault.{StepFault}
@@ -121,14 +122,6 @@ for_other_device hs r p i k is ne = ap (is_place i k) is ∙ ap (λ b. b && (p.1
 
 for_other_event : (hs : List HistoryValue) (r : Receipt) (p : ℕ × ℕ) (i k : ℕ) → place_of hs r ≡ Some p → k ≢ p.1 → is_for hs i k r ≡ false
 for_other_event hs r p i k is ne = ap (is_place i k) is ∙ ap (λ b. (p.0 == i) && b) (eq_false p.1 k (λ e. ne (sym e))) ∙ and_false (p.0 == i)
-
-or_true : (b : Bool) → (b || true) ≡ true
-or_true true = refl
-or_true false = refl
-
-or_false : (b : Bool) → (b || false) ≡ b
-or_false true = refl
-or_false false = refl
 
 marked_more : (hs : List HistoryValue) (before : List Receipt) (r : Receipt) (marks : List (List Bool)) (p : ℕ × ℕ) → AreMarks hs before marks → place_of hs r ≡ Some p → p.0 < length marks → p.1 < length (slice_index_or marks p.0 []) → (i k : ℕ) → mark_at (with_mark marks p.0 p.1) i k ≡ has_receipt hs (before ++ r ∷ []) i k
 marked_more hs before r marks p are is lt within i k =

@@ -86,11 +86,9 @@ recorded_read n words part fits read =
     ∙ ap (λ (number : Option ℕ). numbered number words) (n64 n fits)
     ∙ ap (λ r. option_and_then {T = Part × List (List ℕ)} (λ got. gives (line.Recorded n got.0) got.1) r) read
 
-same_number : (a b : ℕ) → a ≡ b → eqb a b ≡ true
-same_number a b is = grind (arith, nat_tests, is)
-
 -- a part of the outcome of the last event
 pub part_read : (made_of : Config) (entries : List Entry) (given : Event) (recorded : Option Outcome) (outcome : Outcome) (n : ℕ) (words : List (List ℕ)) (part : Part) → n < 2 ^ 64 → n ≡ length entries + 1 → are_clean words ≡ true → part_reader words ≡ Some (part, []) → recorded_with recorded part ≡ Some outcome → Reads (Events made_of entries (Some (given, recorded))) (line_text (decimal n ∷ words)) (Events made_of entries (Some (given, Some outcome)))
 part_read made_of entries given recorded outcome n words part fits number clean read with =
-    let built : builder_with (Events made_of entries (Some (given, recorded))) (line.Recorded n part) ≡ Some (Events made_of entries (Some (given, Some outcome))) = rw (same_number n (length entries + 1) number, with) refl in
+    let last : eqb n (length entries + 1) ≡ true = grind (arith, nat_tests, number) in
+    let built : builder_with (Events made_of entries (Some (given, recorded))) (line.Recorded n part) ≡ Some (Events made_of entries (Some (given, Some outcome))) = rw (last, with) refl in
     line_reads (Events made_of entries (Some (given, recorded))) (Events made_of entries (Some (given, Some outcome))) (decimal n) words (line.Recorded n part) (decimal_begins n fits) (decimal_clean n fits) clean (recorded_read n words part fits read) built

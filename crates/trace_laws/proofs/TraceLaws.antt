@@ -69,9 +69,9 @@ led made_of text entries events last reads is all =
     let step = reads.leads [] 1 in
     ap (λ t. parsed_from 1 (Ok Empty) (parts_of t)) (sym (append-nil text)) ∙ step.1 ∙ parsed_whole made_of entries events last step.0 is all
 
-read_as : (text : List ℕ) → trace_reading text ≡ parsed_from 1 (Ok Empty) (parts_of text)
+reads_as : (text : List ℕ) (trace : Trace) → parsed_from 1 (Ok Empty) (parts_of text) ≡ Ok trace → trace_reading text ≡ Ok trace
 unfolding trace_reading
-read_as text = refl
+reads_as text trace is = is
 
 spelled : (profile : Profile) (events : List Entry) → trace_text (record { config = config.Adapter profile; events = events }) ≡ profile_text profile ++ entries_text 1 events
 unfolding trace_text
@@ -83,8 +83,8 @@ all_read made_of front events first is (entries, (last, (reads, all))) = led mad
 pub trace_back : (profile : Profile) (events : List Entry) → ProfileFits profile → profile_fault profile ≡ None → All EntryFits events → length events < 2 ^ 64 - 1 → trace_reading (trace_text (record { config = config.Adapter profile; events = events })) ≡ Ok (record { config = config.Adapter profile; events = events })
 trace_back profile events fits is fit few =
     ap trace_reading (spelled profile events)
-    ∙ read_as (profile_text profile ++ entries_text 1 events)
-    ∙ all_read (config.Adapter profile) (profile_text profile) events (profile_read profile fits) is (entries_read (config.Adapter profile) [] None 1 events refl (omega (arith, few)) fit)
+    ∙ reads_as (profile_text profile ++ entries_text 1 events) (record { config = config.Adapter profile; events = events })
+    (all_read (config.Adapter profile) (profile_text profile) events (profile_read profile fits) is (entries_read (config.Adapter profile) [] None 1 events refl (omega (arith, few)) fit))
 
 -- SCANNERS
 
@@ -129,5 +129,5 @@ scanner_events profile front ((event, recorded) ∷ events) reads is few fit =
 pub scanner_trace_back : (profile : ScannerProfile) (events : List Entry) → ScannerFits profile → scanner.profile_fault profile ≡ None → All EntryFits events → length events < 2 ^ 64 - 1 → trace_reading (trace_text (record { config = config.Scanner profile; events = events })) ≡ Ok (record { config = config.Scanner profile; events = events })
 scanner_trace_back profile events fits is fit few =
     ap trace_reading (scanner_spelled profile events)
-    ∙ read_as (scanner_text profile ++ entries_text 1 events)
-    ∙ scanner_events profile (scanner_text profile) events (scanner_read profile fits) is (omega (arith, few)) fit
+    ∙ reads_as (scanner_text profile ++ entries_text 1 events) (record { config = config.Scanner profile; events = events })
+    (scanner_events profile (scanner_text profile) events (scanner_read profile fits) is (omega (arith, few)) fit)
