@@ -5,7 +5,7 @@ use Rattle.cip_tables.specs.declared.table.Config.{Config}
 use Rattle.cip_tables.specs.Step.{incarnation_of, opening_table}
 use Rattle.device_lock.specs.declared.receipt.Receipt.{Receipt}
 use Rattle.device_lock.specs.Histories.{HistoryValue}
-use Rattle.settling.specs.Settlings.{SettlesAll}
+use Rattle.settling.specs.Settlings.{SettlesApart}
 use Rattle.trace_stepper.specs.Compared.{AgreeBefore}
 use Rattle.trace_stepper.specs.Stepping.{outcomes_of_trace}
 use Rattle.trace_text.specs.declared.trace.Trace.{Trace}
@@ -68,8 +68,8 @@ receipts_of_all (t ∷ ts) names = receipts_in t (first_names names) ++ receipts
 -- WHAT SETTLES
 
 -- Each record is whole, each outcome in whose place a record has a sum has that sum, and a schedule has all histories and all
--- receipts.
+-- receipts. No two devices have a connection id in common, so the laws of order hold of it (`WhatSettlesApartIsInOrder`).
 pub record HasSettledRecords (records : List Trace) (sums : List (List PlacedSum)) (s : SettledRecords) : Type 0 where
   pub recorded : AllRecorded records
   pub summed : AllHaveSums records sums
-  pub settles : SettlesAll (histories_in records s.names.items) (receipts_of_all records s.names.items) s.schedule
+  pub settles : SettlesApart (histories_in records s.names.items) (receipts_of_all records s.names.items) s.schedule

@@ -27,6 +27,8 @@ pub enum RecordsFault {
     UnsentFrame(EventPlace),
     /// The records have more streams than a network has numbers.
     Streams,
+    /// The devices of the records at these two indexes have a connection id in common.
+    SharedIds(usize, usize),
     /// An event that depends on what is left out: its answer is another one without refused events and stations' messages.
     Foreign(u8, u32),
     /// Nothing brings the event about in any order in which the events of each device stay: what it needs comes later.

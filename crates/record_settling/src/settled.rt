@@ -1,7 +1,10 @@
 //! Records that settle.
 
-ghost use Rattle.std.specs.Prelude.{◌≡◌, ◌++◌, true, IfNone, IfOk, OnOk};
+ghost use Rattle.std.specs.Prelude.{◌≡◌, ◌++◌, true, None, IfNone, IfOk, OnOk};
 ghost use Rattle.cip_tables.specs.Step.{AcceptsAll};
+ghost use Rattle.segment_world.specs.Configs.{world_fault};
+ghost use Rattle.settling.specs.Search.Histories.{configs_of};
+ghost use Rattle.settling.specs.SharedIds.{ShareNoIds};
 ghost use Rattle.record_settling.specs.Settled.{AllRecorded, HasSettledRecords, IsRecorded, all_recorded, byte_in, first_names, histories_in, history_in, is_recorded, other_names, receipts_in, receipts_of_all};
 
 use crate::account::{divide, history_of, kept_place, steps_of};
@@ -13,7 +16,7 @@ use cip_tables::{Config, Device, Event};
 use cip_types::Items;
 use device_lock::{History, Receipt};
 use segment_world::{Act, WorldFault};
-use settling::{Unsettled, check_configs, settle};
+use settling::{Unsettled, check_configs, find_shared_ids, settle};
 use std::alloc::Global;
 use trace_outcomes::PlacedSum;
 use trace_stepper::{StepperFault, compare, replay};
@@ -178,6 +181,26 @@ fn histories_of<D: Device + Drop>(
     Ok(histories)
 }
 
+/// Fails if no world can be made of the devices of histories, or two of them have a connection id in common.
+fn check_histories<D: Device + Drop>(
+    alloc: Global,
+    histories: &[History],
+) -> Result<(), RecordsFault>
+    requires accepts { AcceptsAll D.accepts }
+    ensures valid { OnOk result (world_fault (configs_of histories.now) ≡ None) }
+    ensures apart { OnOk result (ShareNoIds histories.now) }
+{
+    match check_configs(alloc, histories) {
+        Ok(()) => {}
+        Err(WorldFault::OutOfMemory) => return Err(RecordsFault::OutOfMemory),
+        Err(_) => return Err(RecordsFault::Profile(0)),
+    }
+    match find_shared_ids::<D>(alloc, histories)? {
+        Some((one, other)) => Err(RecordsFault::SharedIds(one, other)),
+        None => Ok(()),
+    }
+}
+
 /// The event of a record that is at this place of its device's history.
 fn event_at(records: &[Trace], byte: u8, place: u64) -> RecordsFault {
     for (record, trace) in records.iter().enumerate() {
@@ -204,11 +227,12 @@ fn fault_of(records: &[Trace], unsettled: Unsettled) -> RecordsFault {
 ///
 /// A history has the events of a record that were answered, without those that change nothing (`accounted`), and each stream
 /// has one number at both its ends (`StreamName`). What is lost on the way is permitted, and what nobody sent is not. Of each
-/// record there may be sums, which it has in the place of outcomes: these are then to have them.
+/// record there may be sums, which it has in the place of outcomes: these are then to have them. No two devices have a connection
+/// id in common: of the blocks that their profiles state or their events give.
 ///
 /// The faults, in order: `SameIncarnation` and `SameNode`; `Unrecorded`, `Profile` and `Differs` of the first record that has
-/// one; `Differs` of the first outcome that has not its sum; `Outsider`, `Streamless` and `Unsent` of the first event; `UnsentFrame` and `Streams`; `Foreign`; `Uncaused`. And
-/// `OutOfMemory` wherever an allocation is refused.
+/// one; `Differs` of the first outcome that has not its sum; `Outsider`, `Streamless` and `Unsent` of the first event; `UnsentFrame` and `Streams`;
+/// `SharedIds`; `Foreign`; `Uncaused`. And `OutOfMemory` wherever an allocation is refused.
 pub fn settle_records<D: Device + Drop>(
     alloc: Global,
     records: &[Trace],
@@ -224,11 +248,7 @@ pub fn settle_records<D: Device + Drop>(
     let names = name_streams(alloc, records)?;
     let mut receipts = Vec::new(alloc);
     let histories = histories_of::<D>(alloc, records, names.as_slice(), &mut receipts)?;
-    match check_configs(alloc, histories.as_slice()) {
-        Ok(()) => {}
-        Err(WorldFault::OutOfMemory) => return Err(RecordsFault::OutOfMemory),
-        Err(_) => return Err(RecordsFault::Profile(0)),
-    }
+    check_histories::<D>(alloc, histories.as_slice())?;
     match settle::<D>(alloc, histories.as_slice(), receipts.as_slice()) {
         Ok(settled) => Ok(SettledRecords {
             names,

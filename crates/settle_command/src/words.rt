@@ -67,6 +67,10 @@ pub(crate) fn push_fault(
             push_two(out, records, one, other)?;
             push_address(out, records, one)?;
         }
+        RecordsFault::SharedIds(one, other) => {
+            push_two(out, records, one, other)?;
+            push_text(out, "their blocks have a connection id in common")?;
+        }
         RecordsFault::Profile(record) => {
             write!(out, "{}: its profile is bad", records.name(record))?;
         }
