@@ -1,6 +1,7 @@
 -- The lines of the call `status --csv`, worked by hand.
 use Rattle.std.proofs.Common.{◌≡◌, [], Some, None, refl}
 use Rattle.std.specs.Prelude.{codes}
+use Rattle.std.specs.Fmt.{digits}
 use Rattle.station_lines.specs.declared.watch.traffic.CountedConnection.{CountedConnection}
 use Rattle.station_lines.specs.Numbers.{slot_numbers, slot_numbers_of}
 use Rattle.station_lines.specs.Watch.DatagramCounts.Counts.{no_counts}
@@ -20,6 +21,7 @@ counted_slot = record {
 }
 
 its_line : slot_numbers (record { number = 3120; ms = 8004 }) 0 (record { 0 = 2130706433 }) counted_slot ≡ codes "csv,3120,8004,slot 0,127.0.0.1,371,370,2,0.8,24,0\n"
+unfolding digits
 its_line = refl
 
 no_line : slot_numbers_of (record { number = 3120; ms = 8004 }) 7 (record { 0 = 2130706433 }) None ≡ []
