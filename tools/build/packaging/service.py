@@ -12,8 +12,11 @@ SERVES_WITHIN_MS, STARTS = 50, 20  # of so many starts the best one is judged
 DRAWN_USER = "61184"  # the first one of those that systemd draws (DynamicUser)
 ADDRESS, PRIORITY, OF_TEST = "127.0.0.10", 20, 30
 ANSWER_S, END_S = 60, 12
-# What a station keeps, and how far on the connection serial numbers of the next start begin: 257 of 65,535 numbers before those of another start.
-KEPT, SERIALS_ON = ("incarnation", "serial", "serials"), 257 * 128
+# What a station keeps: of its last start the incarnation, the device's serial number and the first connection serial number; the place of the
+# circle of connection ids from which on none was reserved, and how many are left.
+KEPT = re.compile(r"incarnation (\d+)\nserial (\d+)\nserials (\d+)\nids (\d+) (\d+)\n")
+IDS, BLOCK = 2**32 - 1, 4096  # of the circle of connection ids, and of those that a life reserves at a time
+SERIALS_ON = 257 * 128  # how far on the connection serial numbers of the next start begin: 257 of 65,535 numbers before those of another start
 # What a station's unit has to say: a user and a folder of its own, no privilege, a start at boot and after a failure.
 SAID = {
     "StateDirectory": "eip/%i", "StateDirectoryMode": "0700", "UMask": "0077", "CapabilityBoundingSet": "", "NoNewPrivileges": "yes",
@@ -60,16 +63,26 @@ class Unit:
 # WHAT IS SEEN OF A STATION
 
 def state_of(room, name):
-    """Of the last start the incarnation, the device's serial number and the first connection serial number; nothing if there is no state."""
-    words = room.run(f"cat {room.states}/{name}/state", True)[1].split()
-    kept = dict(zip(words[::2], words[1::2]))
-    return tuple(int(kept[it]) for it in KEPT) if sorted(kept) == sorted(KEPT) and all(it.isdigit() for it in kept.values()) else ()
+    """The numbers of a station's state file; nothing if there is no state."""
+    kept = KEPT.fullmatch(room.run(f"cat {room.states}/{name}/state", True)[1])
+    return tuple(map(int, kept.groups())) if kept else ()
+
+
+def follows(first, second):
+    """Whether a start follows another one: the next incarnation, the same device, serial numbers half a circle away, connection ids behind all of the other's."""
+    given = first[4] - second[4]
+    return second[:3] == (first[0] % 255 + 1, first[1], (first[2] - 1 + SERIALS_ON) % 65535 + 1) and given > 0 and (second[3] - first[3] - given) % IDS == 0
 
 
 def follow(states):
-    """Whether each start follows the one before it: the next incarnation, the same device, serial numbers half a circle away."""
-    return len(states) > 1 and all(states) and all(
-        second == (first[0] % 255 + 1, first[1], (first[2] - 1 + SERIALS_ON) % 65535 + 1) for first, second in zip(states, states[1:]))
+    """Whether each start follows the one before it."""
+    return len(states) > 1 and all(states) and all(follows(first, second) for first, second in zip(states, states[1:]))
+
+
+def is_ended(serving, ended):
+    """Whether an end in order left the second state of the first one: the same start, which has given back ids of its block."""
+    back = ended[4] - serving[4] if serving and ended else 0
+    return ended[:3] == serving[:3] and 0 < back < BLOCK and (serving[3] - ended[3] - back) % IDS == 0
 
 
 def stations_in(room):
@@ -152,7 +165,7 @@ def as_the_unit_says(bench, room, text, profile):
         bench.judge(min(times) < SERVES_WITHIN_MS, said)
     else:
         bench.left_out(f"a start within {SERVES_WITHIN_MS} ms, on a machine that gives no real-time priority: {said}")
-    bench.judge(follow(states), f"incarnations and connection serial numbers follow one another, and the serial number stays: {states}", str(states))
+    bench.judge(follow(states), f"incarnations, connection serial numbers and ids follow one another, and the serial number stays: {states}", str(states))
 
 
 # STARTED BY THE SYSTEM
@@ -179,7 +192,7 @@ def by_the_system(bench, room, commands):
         bench.judge(False, "the system starts again", str(fault))
     finally:
         system.close()
-    bench.judge(follow(states), f"of each start incarnation and connection serial numbers follow, and the serial number stays: {states}", str(states))
+    bench.judge(follow(states), f"of each start incarnation, connection serial numbers and ids follow, and the serial number stays: {states}", str(states))
 
 
 def enabled_and_serves(bench, system, what, states):
@@ -191,7 +204,7 @@ def enabled_and_serves(bench, system, what, states):
 
 
 def ended_by_others(bench, system, states):
-    """A station that is killed starts again; one that is stopped ends in order; when the package is removed it ends, and its state stays."""
+    """A station that is killed starts again; one that is stopped ends in order; when the package is removed it ends in order, and its state stays."""
     system.run("systemctl kill -s KILL eip-station@pump", True)
     end = time.monotonic() + ANSWER_S
     while state_of(system, "pump") == states[-1] and time.monotonic() < end:
@@ -203,5 +216,5 @@ def ended_by_others(bench, system, states):
     serves = answered(system) is not None
     states.append(state_of(system, "pump"))
     removed, printed = system.run("dpkg -r eip", True)
-    bench.judge(serves and status == removed == 0 and not [*stations_in(system)] and state_of(system, "pump") == states[-1],
-                "when the package is removed a station ends, and its state stays", said + printed)
+    bench.judge(serves and status == removed == 0 and not [*stations_in(system)] and is_ended(states[-1], state_of(system, "pump")),
+                "when the package is removed a station ends in order, and its state stays", said + printed)
