@@ -9,7 +9,7 @@ what the application writes. It answers what is to be sent. The same events give
         for frame in answer.frames:
             ...
 
-The devices are those of include/eip.h, in a shared library that tools/build/python_library builds. This module needs the
+The devices are those of include/eip.h, in a shared library that tools/build/python_library builds. The modules here need the
 standard library alone, and Python 3.9 or later. docs/PYTHON.md introduces it, docs/PROFILE.md has the rules of a device.
 """
 
@@ -26,6 +26,8 @@ import threading
 import weakref
 from dataclasses import dataclass, replace
 from typing import Any, Callable, Optional, TypeVar, Union
+
+from point_names import Names, read_names
 
 Address = Union[str, int]
 """An IPv4 address: "192.168.1.10", or 0xC0A8010A. Answers have the first form."""
@@ -798,6 +800,8 @@ class Device:
         """The incarnation of its profile: the first byte of each connection id that it gives, unless the profile states its ids."""
         self.node: str = first[2].decode()
         """The device's own address, as its profile has it."""
+        self.names: Names = read_names(text)
+        """The names of points, slots and bits that the comments of its profile say."""
 
     @classmethod
     def from_file(cls: type[SomeDevice], path: Union[str, os.PathLike[str]]) -> SomeDevice:

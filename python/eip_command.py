@@ -22,8 +22,8 @@ import threading
 from typing import Callable, NoReturn, Optional, Sequence, cast
 
 from eip import (
-    Answer, AnswerKept, BadLine, BadProfile, Device, LibraryMissing, Refused, RefusalNotice, ResetNotice, Status, UnansweredNotice, node_number,
-    node_text,
+    Answer, AnswerKept, BadLine, BadProfile, Device, LibraryMissing, Notice, Refused, RefusalNotice, ResetNotice, SlotNotice,
+    SlotState, Status, UnansweredNotice, node_number, node_text,
 )  # fmt: skip
 from fault_words import refusal_words, unanswered_words
 from plant import Faults, Member, Plant
@@ -84,6 +84,8 @@ def device_of(path: str, incarnation: Optional[int] = None, kind: type[Device] =
     if events_of(text):
         device.close()
         raise Failure(UNREAD, f"{path} has events behind the profile")
+    for bad_name in device.names.bad:
+        print(f"eip: {path}: line {bad_name.line}: {bad_name.fault.value}", file=sys.stderr)
     return device
 
 
@@ -178,7 +180,8 @@ def test(words: argparse.Namespace) -> int:
         if not any(run.verdicts() for run in runs):
             raise Failure(UNREAD, "no script judges: a test has a line with expect, fail or pass")
         plant.run_until(words.ms)
-        said = [(ms, run.member.name, text) for run in runs for ms, text in run.said]
+        said = [(ms, it.name, f"# {text}{it.labels(text)}") for it in members for ms, text in sentences_of(it)]
+        said += [(ms, run.member.name, text) for run in runs for ms, text in run.said]
         for ms, name, text in sorted(said, key=lambda it: it[0]):
             print(f"{name} at {ms} {text}")
         sys.stdout.flush()
@@ -212,6 +215,29 @@ def write_records(folder: Optional[str], members: Sequence[Member]) -> None:
             file.write_bytes(member.device.trace().encode())
         except OSError as fault:
             raise Failure(REPORT, "the record cannot be written") from fault
+
+
+def sentence_of(notice: Notice) -> Optional[str]:
+    """Why a slot is not opened, or a request not answered, if a notice says it."""
+    if isinstance(notice, RefusalNotice):
+        return refusal_words(notice)
+    return unanswered_words(notice) if isinstance(notice, UnansweredNotice) else None
+
+
+def sentences_of(member: Member) -> list[tuple[int, str]]:
+    """The sentences of a member's notices, with their times. The same one of a slot is said once, until the slot is established."""
+    said: list[tuple[int, str]] = []
+    last: dict[int, str] = {}
+    for ms, notice in member.notices:
+        text = sentence_of(notice)
+        if isinstance(notice, SlotNotice) and notice.state is SlotState.ESTABLISHED:
+            last.pop(notice.slot, None)
+        if text is None or isinstance(notice, RefusalNotice) and last.get(notice.slot) == text:
+            continue
+        if isinstance(notice, RefusalNotice):
+            last[notice.slot] = text
+        said.append((ms, text))
+    return said
 
 
 def names_of(paths: Sequence[str]) -> list[str]:
@@ -301,8 +327,8 @@ class Served:
                 self.put(f"output {output} {value.hex()}")
 
     def put(self, text: str) -> None:
-        """Prints a line with its time."""
-        self.printer.put(f"at {self.member.plant.now_ms} {text}")
+        """Prints a line with its time, and with names behind it."""
+        self.printer.put(f"at {self.member.plant.now_ms} {text}{self.member.labels(text)}")
 
     def watch(self, answer: Answer) -> None:
         """Prints what an answer says, and restarts the device if a peer requests it. Nothing is kept, however long it serves."""
@@ -310,10 +336,9 @@ class Served:
         self.member.notices.clear()
         for notice in answer.notices:
             self.put(f"note {notice_words(notice)}")
-            if isinstance(notice, RefusalNotice):
-                self.put(f"# {refusal_words(notice)}")
-            if isinstance(notice, UnansweredNotice):
-                self.put(f"# {unanswered_words(notice)}")
+            sentence = sentence_of(notice)
+            if sentence is not None:
+                self.put(f"# {sentence}")
             if isinstance(notice, ResetNotice):
                 self.member.plant.at(self.member.plant.now_ms, self.restart)
         if answer.asked:

@@ -20,10 +20,11 @@ import heapq
 import itertools
 import random
 from dataclasses import dataclass, field, replace
-from typing import TYPE_CHECKING, Any, Callable, Optional, Protocol, TypeVar
+from typing import TYPE_CHECKING, Any, Callable, Mapping, Optional, Protocol, TypeVar
 
 from eip import Answer, Datagram, Delivery, Device, DeviceClosed, Notice, Refused, StreamNotice, TimedAnswer
 from plant_script import ScriptRun, read_script
+from point_names import Names, labels
 
 if TYPE_CHECKING:
     from typing_extensions import Concatenate, ParamSpec
@@ -125,6 +126,15 @@ class Member:
     def is_scanner(self) -> bool:
         """Whether the device is a scanner."""
         return self.device.is_scanner
+
+    @property
+    def names(self) -> Names:
+        """The names of points, slots and bits that the comments of its profile say."""
+        return self.device.names
+
+    def labels(self, line: str) -> str:
+        """What stands behind a line about the device: the names of its points and slots, and of the plant's devices (section 38)."""
+        return labels(line, self.names, self.plant.device_names)
 
     @property
     def now_ms(self) -> int:
@@ -476,6 +486,18 @@ class Plant:
         member = Member(self, device, name or device.node)
         self.members[device.node] = member
         return member
+
+    def member(self, name: str) -> Member:
+        """The device of this name. Raises ValueError if none has it, or several have."""
+        found = [it for it in self.members.values() if it.name == name]
+        if len(found) == 1:
+            return found[0]
+        raise ValueError(f"several devices have the name {name}" if found else f"no device has the name {name}")
+
+    @property
+    def device_names(self) -> Mapping[str, str]:
+        """The names of the devices by their addresses. One that was added without a name is not among them."""
+        return {node: it.name for node, it in self.members.items() if it.name != node}
 
     def connect(self, first: Member, second: Member, again_ms: Optional[int] = 1000) -> None:
         """Opens a stream between two devices. It is opened again so long after it ended, or with None it is not."""

@@ -60,6 +60,9 @@ class Member(Protocol):
     def pass_time(self) -> None:
         """Gives the device the time that has passed, unless it pauses."""
 
+    def labels(self, line: str) -> str:
+        """What stands behind a line about the device: names."""
+
 
 class BadScript(ValueError):
     """A text is no script: its first bad line, from 1, and what is wrong with it."""
@@ -249,6 +252,10 @@ class Line:
         says = {"call": "call", "expect": f"expect {within}{self.condition}", "fail": f"fail {self.text}", "pass": "pass"}
         return f"{self.number}: {says[self.goal]}"
 
+    def why(self) -> str:
+        """Why it has not passed."""
+        return self.failure or "was not reached"
+
     def verdict(self, decided: bool) -> Optional[Verdict]:
         """What came of it, of a script that another line has decided or not. None of a line that does not judge."""
         if self.goal == "call":
@@ -426,7 +433,8 @@ class ScriptRun:
         try:
             call(self.member)
         except Refused as refused:
-            self.say(f"refused {line.number} {refused}")
+            # (a number behind `refused` would have the name of a slot, and this is the number of a line)
+            self.said.append((self.member.clock_ms, f"refused {line.number} {refused}"))
 
     def expect(self, line: Line) -> None:
         """A line begins to expect its condition: it is met at once, or waits."""
@@ -451,7 +459,7 @@ class ScriptRun:
         self.say(f"failed {line.number} {why}")
 
     def say(self, text: str) -> None:
-        self.said.append((self.member.clock_ms, text))
+        self.said.append((self.member.clock_ms, text + self.member.labels(text)))
 
     def verdicts(self) -> list[tuple[Line, Verdict]]:
         """The lines that judge, and what came of each."""
@@ -468,9 +476,13 @@ class ScriptRun:
         both, name = self.verdicts(), self.member.name
         bad = [line for line, verdict in both if verdict in (Verdict.FAILED, Verdict.NOT_REACHED)]
         skipped = sum(verdict is Verdict.SKIPPED for _, verdict in both)
-        said = [f"{name}: script line {line.words()}: {line.failure or 'was not reached'}" for line in bad]
+        said = [f"{name}: script line {line.words()}: {line.why()}{self.labels(line)}" for line in bad]
         has = "has not passed" if bad else "has passed"
         return "\n".join([*said, f"{name}: its script {has}: {len(both)} lines judge, {len(bad)} failed, {skipped} skipped"])
+
+    def labels(self, line: Line) -> str:
+        """The names of what a line is about. Why it failed repeats what it says, so each name is there once."""
+        return self.member.labels(line.failure or line.words())
 
     def suite(self) -> str:
         """Its suite of a report, in the form of JUnit."""
@@ -480,20 +492,25 @@ class ScriptRun:
         text = f'  <testsuite name={name} tests="{len(both)}" failures="{failures}" skipped="{skipped}">\n'
         for line, verdict in both:
             seconds = f"{line.longest_ms // 1000}.{line.longest_ms % 1000:03}"
-            text += f'    <testcase classname={name} name={_attribute(line.words())} time="{seconds}"'
+            case = _attribute(line.words() + self.member.labels(line.words()))
+            text += f'    <testcase classname={name} name={case} time="{seconds}"'
             if verdict is Verdict.PASSED:
                 text += "/>\n"
             elif verdict is Verdict.SKIPPED:
                 text += ">\n      <skipped/>\n    </testcase>\n"
             else:
-                why = _attribute(line.failure or "was not reached")
+                why = _attribute(line.why() + self.member.labels(line.why()))
                 text += f">\n      <failure message={why}/>\n    </testcase>\n"
         return text + "  </testsuite>\n"
 
 
+_NO_CHARACTER = re.compile("[^\t\n\r -\ud7ff\ue000-\ufffd\U00010000-\U0010ffff]")
+
+
 def _attribute(text: str) -> str:
-    """A text as the value of an attribute."""
-    return '"' + escape(text, {'"': "&quot;"}) + '"'
+    """A text as the value of an attribute. What is no character of XML is replaced."""
+    text = _NO_CHARACTER.sub("\ufffd", text)
+    return '"' + escape(text, {'"': "&quot;", "\t": "&#9;", "\n": "&#10;", "\r": "&#13;"}) + '"'
 
 
 def report_text(runs: Iterable[ScriptRun]) -> str:

@@ -23,6 +23,7 @@ import fault_words
 import plant
 import plant_script
 import plant_sockets
+import point_names
 import trace_lines
 from eip import (
     Answer, AnswerKept, AskedRequest, BadLine, BadProfile, Connection, ConnectionKind, ConnectionNotice, Datagram, Delivery, Device,
@@ -33,6 +34,7 @@ from eip import (
 from plant import Faults, Plant
 from plant_script import BadScript, Judgement, judged, read_script, report_text
 from plant_sockets import PortRefused, Sockets
+from point_names import BadName, NameFault, Names, labelled, read_names
 from trace_lines import RecordedDevice, outcome_lines
 
 TOP = pathlib.Path(__file__).resolve().parent.parent
@@ -916,6 +918,9 @@ class Scripts(unittest.TestCase):
 </testsuites>
 ''')
 
+    def test_a_report_has_characters_of_xml_alone(self):
+        self.assertEqual(plant_script._attribute("a\x01\n\ufffe<\ud800é\t"), '"a\ufffd&#10;\ufffd&lt;\ufffdé&#9;"')
+
     def test_somebody_elses_adapter_that_keeps_its_output_fails_with_a_sentence(self):
         """The owner pauses at 3000; the watcher opens once the target has dropped it, and reads the output, which the input repeats."""
         sys.path.append(str(TOP / "tools" / "peers"))
@@ -1143,6 +1148,104 @@ class Sentences(unittest.TestCase):
             (UnansweredNotice(NoticeKind.NO_REPLY_ENCAP, 4, 3), "explicit request 4 is not answered: encapsulation status 0x0003 (incorrect data)"),
         ]:
             self.assertEqual(fault_words.unanswered_words(notice), text)
+
+
+class PointNames(unittest.TestCase):
+    """Section 38."""
+
+    NAMES = Names({150: "Valves", 100: "Levels"}, {0: "Press"}, {(150, 0, 0): "Open"})
+    DEVICES = {"10.0.0.2": "press", "10.0.0.1": "line"}
+
+    def test_lines_have_the_names_that_those_of_a_station_have(self):
+        """The samples of the crate, which were worked by hand."""
+        text = (TOP / "crates/trace_words/proofs/LabelSamples.antt").read_text()
+        rows = [[word.replace('\\"', '"') for word in row] for row in re.findall(r': labelled \(codes "(.*)"\) ≡ codes "(.*)"$', text, re.M)]
+        self.assertGreaterEqual(len(rows), 18)
+        for line, expected in rows:
+            self.assertEqual(labelled(line, self.NAMES, self.DEVICES), expected)
+
+    def test_more_lines_with_names(self):
+        for line, behind in [
+            ("met 1 owner 150 of 10.0.0.1 after 5", " # 150 (Valves), 10.0.0.1 (line)"), ("image 0 = 150, but 100", " # slot 0 (Press)"),
+            ("no-ids 0", " # slot 0 (Press)"), ("slot 150", ""), ("output 0150", ""), ("output 150: 100", " # 150 (Valves)"),
+            ("connection 10.0.0.1 listen 100 150 100", " # 10.0.0.1 (line), 100 (Levels), 150 (Valves)"), ('x "a output 150', ""), ("", ""),
+        ]:
+            self.assertEqual(labelled(line, self.NAMES, self.DEVICES), line + behind)
+        self.assertEqual(labelled("owner 150 of 10.0.0.1", self.NAMES), "owner 150 of 10.0.0.1 # 150 (Valves)")
+
+    def test_a_profile_names_its_things_once(self):
+        names = read_names("# name 150 Valves\nadapter\n# name slot 0 Press\n# bit 150 1 7 Inlet open\n# name 4294967295 é, x\n#name 1 a\n# named 2 b\n name 3 c")
+        expected = Names({150: "Valves", 4294967295: "é, x"}, {0: "Press"}, {(150, 1, 7): "Inlet open"})
+        self.assertEqual(names, expected)
+        words, text, again = NameFault.WORDS, NameFault.TEXT, NameFault.REPEATED
+        for line, fault in [
+            ("name", words), ("name x a", words), ("name 01 a", words), ("name  1 a", words), ("name 4294967296 a", words), ("name slot a", words),
+            ("bit 1 0 8 a", words), ("bit 1 0 a", words), ("name 1", text), ("name 1 ", text), (f"name 1 {'a' * 33}", text), ("name 1 a\tb", text),
+            ("name 1 a\x7f", text), ("name 1 a\x9f", text), ("name 9 again", again), ("name slot 9 again", again), ("bit 9 0 0 again", again),
+        ]:
+            given = f"# name 9 a\n# name slot 9 a\n# bit 9 0 0 a\n\n# {line}\n"
+            read = read_names(given)
+            self.assertEqual((read.bad, read.points, read.slots, read.bits), ((BadName(5, fault),), {9: "a"}, {9: "a"}, {(9, 0, 0): "a"}), line)
+        self.assertEqual(read_names(b"# name 1 \xff").bad, (BadName(1, text),))
+        self.assertEqual(read_names("# name 1 " + "é" * 32).points, {1: "é" * 32})
+
+    def test_the_sentences_of_bad_lines_are_those_of_a_station(self):
+        source = (TOP / "crates/trace_words/src/point_names/names.rt").read_text()
+        self.assertEqual(re.findall(r'^ +"(a name line.*|a name has.*)"$|NameLineFault::Repeated => "(.*)"', source, re.M),
+                         [(NameFault.WORDS.value, ""), (NameFault.TEXT.value, ""), ("", NameFault.REPEATED.value)])
+
+    def test_what_has_a_name_is_found_by_it(self):
+        names = Names({1: "a", 2: "b", 3: "b"}, {7: "a"}, {(1, 0, 1): "x", (1, 1, 7): "y", (1, 2, 0): "z", (2, 0, 0): "w"})
+        self.assertEqual((names.point("a"), names.slot("a")), (1, 7))
+        for call, text in [
+            (lambda: names.point("b"), "several points have the name b"), (lambda: names.slot("b"), "no slot has the name b"),
+        ]:
+            with self.assertRaises(ValueError) as wrong:
+                call()
+            self.assertEqual(str(wrong.exception), text)
+        self.assertEqual(names.bits_of(1, b"\x02\x7f"), {"x": True, "y": False})
+
+    def test_a_device_and_a_plant_have_names(self):
+        with Plant() as plant:
+            adapter = plant.add(Device("# name 150 Valves\n" + ADAPTER), "island")
+            scanner = plant.add(RecordedDevice("# name slot 0 Press\n" + SCANNER))
+            self.assertEqual((adapter.names.point("Valves"), scanner.names.slots), (150, {0: "Press"}))
+            self.assertEqual(adapter.labels("slot 0 owner 150 of 192.168.1.10, 192.168.1.20"), " # 150 (Valves), 192.168.1.10 (island)")
+            self.assertEqual((plant.member("island"), plant.member("192.168.1.20")), (adapter, scanner))
+            adapter.restart(Device(ADAPTER))
+            self.assertEqual(adapter.labels("owner 150"), "")
+            plant.add(Device(ADAPTER.replace("1.10", "1.11")), "island")
+            for name, text in ("island", "several devices have the name island"), ("x", "no device has the name x"):
+                with self.assertRaises(ValueError) as wrong:
+                    plant.member(name)
+                self.assertEqual(str(wrong.exception), text)
+
+    def test_verdicts_have_names(self):
+        """The island's first line fails at 2001, since it is expected at 2000; the controller's second line names line 2, and no slot."""
+        plant = Plant()
+        self.addCleanup(plant.close)
+        island = plant.add(Device("# name 150 Valves\n# name 100 Levels\n" + ADAPTER), "island")
+        controller = plant.add(Device("# name slot 0 Press\n# name slot 2 Saw\n" + SCANNER), "controller")
+        plant.connect(controller, island)
+        controller.start(0)
+        own = controller.script("at 100 expect slot 0 established\nat 100 write 9 00\nat 9000 expect image 0 = 00")
+        run = island.script("at 2000 expect owner 150 of 192.168.1.10\nat 2000 fail output 100 leaks")
+        plant.run_until(3000)
+        self.assertEqual(own.said, [(100, "met 1 slot 0 established after 0 # slot 0 (Press)"), (100, "refused 2 no such slot")])
+        self.assertEqual(run.said, [(2000, "failed 2 output 100 leaks # 100 (Levels)")])
+        self.assertEqual(own.words().split("\n")[0], "controller: script line 3: expect image 0 = 00: was not reached # slot 0 (Press)")
+        self.assertEqual(report_text([own]).split("\n")[4:7], [
+            '    <testcase classname="controller" name="3: expect image 0 = 00 # slot 0 (Press)" time="0.000">',
+            '      <failure message="was not reached"/>', "    </testcase>",
+        ])
+        second = island.script("at 3000 expect owner 150 of 192.168.1.10")
+        plant.run_until(3001)
+        why = "owner 150 of 192.168.1.10, but of 192.168.1.20 "
+        names = "# 150 (Valves), 192.168.1.10 (island), 192.168.1.20 (controller)"
+        self.assertEqual(second.said, [(3001, f"failed 1 {why}idle {names}")])
+        self.assertEqual(second.words().split("\n")[0], f"island: script line 1: expect owner 150 of 192.168.1.10: {why}idle {names}")
+        self.assertIn(f'<failure message="{why}idle {names}"/>', report_text([second]))
+        self.assertEqual(second.lines[0].failure, f"{why}idle")
 
 
 class AtSockets(unittest.TestCase):
@@ -1381,6 +1484,30 @@ class Commands(unittest.TestCase):
         self.assertEqual([len(re.findall(rf"^[0-9]+ {word}$", trace, re.M)) for word in ("idle", "duplicate")], [1, 6])
         self.assertEqual(self.performed(*words, "--records", "/dev/null")[::2], (6, ["eip: the record cannot be written"]))
 
+    def test_what_it_prints_has_names_and_sentences(self):
+        """Slot 1 wants the input 101, which is not there: it is refused at 0, and again 3 s later with the same sentence."""
+        island = self.file("island.profile", "# name 150 Valves\n# name x\n" + ADAPTER)
+        slots = SCANNER + "slot 192.168.1.10 exclusive 151 150 101 4 4 10000 10000 2 p2p - -\n"
+        controller = self.file("controller.profile", "# name slot 1 Press\n" + slots)
+        script = self.file("a.script", "at 100 expect owner 150 of 192.168.1.20\nat 4000 pass\n")
+        said = "general status 0x01 (connection failure), extended status 0x012b (invalid producing application path)"
+        words = ["test", controller, "-", island, script, "--ms", "4000"]
+        expected = [f"controller at 0 # slot 1 is not opened: {said} # slot 1 (Press)",
+                    "island at 100 met 1 owner 150 of 192.168.1.20 after 0 # 150 (Valves), 192.168.1.20 (controller)", "island at 4000 passed 2"]
+        self.assertEqual(self.performed(*words), (0, expected, [
+            f"eip: {island}: line 2: {NameFault.WORDS.value}", "eip: island: its script has passed: 2 lines judge, 0 failed, 0 skipped",
+        ]))
+
+    def test_a_sentence_of_a_slot_is_said_again_behind_its_opening(self):
+        refused, other = (RefusalNotice(NoticeKind.REFUSED, slot, 1, 0x0106) for slot in (0, 1))
+        full = RefusalNotice(NoticeKind.REFUSED, 0, 1, 0x0113)
+        opened, lost = SlotNotice(NoticeKind.SLOT, 0, SlotState.ESTABLISHED), SlotNotice(NoticeKind.SLOT, 0, SlotState.IDLE)
+        unanswered = UnansweredNotice(NoticeKind.NO_REPLY_LOST, 0)
+        notices = [refused, other, refused, lost, refused, full, refused, opened, refused, unanswered, unanswered]
+        said = eip_command.sentences_of(types.SimpleNamespace(notices=list(enumerate(notices))))
+        self.assertEqual([ms for ms, _ in said], [0, 1, 5, 6, 8, 9, 10])
+        self.assertEqual(said[0][1], fault_words.refusal_words(refused))
+
     def test_another_incarnation_leaves_the_rest(self):
         self.assertEqual(eip_command.with_incarnation("# a\n" + ADAPTER, 99), "# a\n" + ADAPTER.replace("adapter 16", "adapter 99"))
 
@@ -1420,6 +1547,9 @@ class Commands(unittest.TestCase):
         self.assertEqual((member.answers, member.notices), ([], []))
         # Reset of the Identity object, of type 0, at a described device without an owner
         lines.clear()
+        member, prints = served(AtSockets.PROFILE.replace("77.10", "77.11").replace("adapter", "# name 150 Valves\nadapter"))
+        self.assertEqual(lines, ["at 0 output 150 00000000 # 150 (Valves)"])
+        lines.clear()
         described = ADAPTER.replace("adapter 16", "adapter 255").replace("heartbeat", "describe 7 50756d70 44818 100 15 02a1b2c3d4e5 120\nheartbeat")
         member, _ = served(described)
         member.request(OWNER, bytes.fromhex("05022001240100"))
@@ -1436,7 +1566,7 @@ class Commands(unittest.TestCase):
 
 class Documents(unittest.TestCase):
     def test_every_public_name_is_typed_and_documented(self):
-        for module in eip, eip_command, fault_words, plant, plant_script, plant_sockets, trace_lines:
+        for module in eip, eip_command, fault_words, plant, plant_script, plant_sockets, point_names, trace_lines:
             for name, it in vars(module).items():
                 if name.startswith("_") or getattr(it, "__module__", None) != module.__name__ or not callable(it):
                     continue
