@@ -28,6 +28,7 @@ from dataclasses import dataclass, replace
 from typing import Any, Callable, Optional, TypeVar, Union
 
 from point_names import Names, read_names
+from profile_lines import with_incarnation, with_unused_ids
 
 Address = Union[str, int]
 """An IPv4 address: "192.168.1.10", or 0xC0A8010A. Answers have the first form."""
@@ -781,6 +782,8 @@ class Device:
         self._room = ctypes.create_string_buffer(max(room, 1))
         self._length = room
         self._now_ms = 0
+        self._text = text
+        self._further_ids = 0
         self.life = 1
         number = ctypes.c_uint64()
         status = self._calls.eip_c_new(text, len(text), self._at, ctypes.byref(number))
@@ -824,6 +827,19 @@ class Device:
             raise ValueError(f"life {life} is none: the first one is 1")
         self._life = _number(life, 0xFFFFFFFF, "life")
         self._plain = Answer(Verdict.DONE, life=life)
+
+    def next_life(self: SomeDevice, same: bool = False) -> SomeDevice:
+        """Another device of its profile, as it begins behind a restart: with the next incarnation, and with ids that were not given.
+
+        With `same` it has those of this life again, as a device has that does not count its starts. What puts it in the place of this
+        one is `plant.Member.restart`, or the caller. The profile has no events.
+        """
+        profile = self._text.decode("latin-1")
+        if not same:
+            # (the ids of the profile are given first)
+            left = max(self.ids_left() - self._further_ids, 0)
+            profile = with_unused_ids(with_incarnation(profile, self.incarnation % 255 + 1), left)
+        return type(self)(profile.encode("latin-1"), self._length)
 
     # Closing
 
@@ -930,7 +946,9 @@ class Device:
         blocks. A block that begins where the last one ends continues that one.
         """
         first, count = _number(first, 0xFFFFFFFF, "first id"), _number(count, 0xFFFFFFFF, "number of ids")
-        return self._event(self._calls.eip_c_ids, first, count)
+        answer = self._event(self._calls.eip_c_ids, first, count)
+        self._further_ids += count
+        return answer
 
     def ids_left(self) -> int:
         """How many connection ids the device has left."""

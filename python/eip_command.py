@@ -1,6 +1,7 @@
 """The command `python3 -m eip`: judges scripts in virtual time, or plays an adapter at the sockets of this host.
 
     python3 -m eip test PROFILE SCRIPT [PROFILE SCRIPT ..] [--ms N] [--report FILE]
+    python3 -m eip plant FILE [--seconds N] [--report FILE]
     python3 -m eip serve PROFILE [--script FILE] [--report FILE] [--seconds N]
 
 The status is 0, or that of `eip_station` for the same failure: 2 a wrong word, 3 a file that is no profile or no script, 4 an address
@@ -11,6 +12,7 @@ before its time.
 from __future__ import annotations
 
 import argparse
+import functools
 import os
 import pathlib
 import queue
@@ -27,8 +29,11 @@ from eip import (
 )  # fmt: skip
 from fault_words import refusal_words, unanswered_words
 from plant import Faults, Member, Plant
+from plant_file import BadPlant, PlantDevice, PlantFile, read_plant
 from plant_script import BadScript, ScriptRun, begun_report, is_report, read_script, write_report
 from plant_sockets import ENCAPSULATION_PORT, IO_PORT, PortRefused, Sockets
+from port_faults import PortFaults
+from profile_lines import with_address, with_description, with_incarnation, without_ids, words_of
 from trace_lines import RecordedDevice, events_of, notice_words, outcome_lines, perform
 
 EARLY, WORDS, UNREAD, OTHER_HOST, PORT, REPORT, NO_MEMORY, UNPASSED = 1, 2, 3, 4, 5, 6, 7, 8
@@ -71,14 +76,12 @@ def read_text(path: str) -> str:
         raise Failure(UNREAD, f"{path}: it has bytes that are no UTF-8") from fault
 
 
-def device_of(path: str, incarnation: Optional[int] = None, kind: type[Device] = Device) -> Device:
-    """A device of the profile in a file, whose incarnation may be another one."""
+def device_of(path: str, kind: type[Device], changed: Callable[[str], str]) -> Device:
+    """A device of the profile in a file, which is changed once it has been read."""
     text = read_text(path)
     try:
-        device = kind(text)
-        if incarnation is not None:
-            device.close()
-            device = kind(with_incarnation(text, incarnation))
+        kind(text).close()
+        device = kind(changed(text))
     except (BadLine, BadProfile) as bad:
         raise Failure(UNREAD, f"{path}: {bad}") from bad
     if events_of(text):
@@ -87,34 +90,6 @@ def device_of(path: str, incarnation: Optional[int] = None, kind: type[Device] =
     for bad_name in device.names.bad:
         print(f"eip: {path}: line {bad_name.line}: {bad_name.fault.value}", file=sys.stderr)
     return device
-
-
-def with_incarnation(profile: str, incarnation: int) -> str:
-    """A profile with another incarnation: the second word of its first line that is no comment."""
-    lines = profile.split("\n")
-    place = next(place for place, line in enumerate(lines) if line and not line.startswith("#"))
-    kind, _, *rest = lines[place].split(" ")
-    lines[place] = " ".join([kind, str(incarnation), *rest])
-    return "\n".join(lines)
-
-
-def with_unused_ids(profile: str, left: int) -> str:
-    """A profile for the next life of a device that has so many connection ids left.
-
-    If the profile states its ids, it states those that are left, but never the first one again: so no id is given twice.
-    """
-    lines = profile.split("\n")
-    for place, line in enumerate(lines):
-        if line.startswith("ids "):
-            first, count = map(int, line.split()[1:])
-            end, count = first + count, min(left, max(count - 1, 0))
-            lines[place] = f"ids {first} 0" if end - count == 2**32 else f"ids {end - count} {count}"
-    return "\n".join(lines)
-
-
-def words_of(profile: str, kind: str) -> list[list[str]]:
-    """The words of the lines of a profile that begin with a word."""
-    return [line.split() for line in profile.split("\n") if line.startswith(f"{kind} ")]
 
 
 def read_front(place: pathlib.Path) -> bytes:
@@ -174,19 +149,24 @@ def test(words: argparse.Namespace) -> int:
     kind = RecordedDevice if words.records else Device
     faults = Faults(words.lose / 100, words.repeat / 100, (0, words.delay))
     with Plant(words.seed, faults) as plant:
-        members = [plant_at(plant, path, name, None, kind) for path, name in zip(profiles, names_of(profiles))]
-        connect(plant, [read_text(path) for path in profiles], members)
+        members = [plant_at(plant, path, name, kind) for path, name in zip(profiles, names_of(profiles))]
+        connect(plant, profiles, members)
         runs = [script_at(member, path) for member, path in zip(members, scripts) if path != "-"]
         if not any(run.verdicts() for run in runs):
             raise Failure(UNREAD, "no script judges: a test has a line with expect, fail or pass")
         plant.run_until(words.ms)
-        said = [(ms, it.name, f"# {text}{it.labels(text)}") for it in members for ms, text in sentences_of(it)]
-        said += [(ms, run.member.name, text) for run in runs for ms, text in run.said]
-        for ms, name, text in sorted(said, key=lambda it: it[0]):
-            print(f"{name} at {ms} {text}")
-        sys.stdout.flush()
-        write_records(words.records, members)
-        return judge(runs, words.report)
+        return ended(members, runs, words.records, words.report)
+
+
+def ended(members: Sequence[Member], runs: Sequence[ScriptRun], records: Optional[str], report: Optional[str]) -> int:
+    """Says what devices and their scripts said, writes records and report, and answers the status."""
+    said = [(ms, it.name, f"# {text}{it.labels(text)}") for it in members for ms, text in sentences_of(it)]
+    said += [(ms, run.member.name, text) for run in runs for ms, text in run.said]
+    for ms, name, text in sorted(said, key=lambda it: it[0]):
+        print(f"{name} at {ms} {text}")
+    sys.stdout.flush()
+    write_records(records, members)
+    return judge(runs, report)
 
 
 def check_script(path: str) -> None:
@@ -207,12 +187,14 @@ def begin_records(folder: Optional[str]) -> None:
 
 
 def write_records(folder: Optional[str], members: Sequence[Member]) -> None:
-    """Writes the record of each device, which `eip_line step` replays."""
-    for member in members if folder is not None else []:
-        assert folder is not None and isinstance(member.device, RecordedDevice)
-        file = pathlib.Path(folder) / f"{member.name}.{member.life}.trace"
+    """Writes the record of each life of each device, which `eip_line step` replays."""
+    if folder is None:
+        return
+    for member, device in ((member, device) for member in members for device in [*member.former, member.device]):
+        assert isinstance(device, RecordedDevice)
+        file = pathlib.Path(folder) / f"{member.name}.{device.life}.trace"
         try:
-            file.write_bytes(member.device.trace().encode())
+            file.write_bytes(device.trace().encode())
         except OSError as fault:
             raise Failure(REPORT, "the record cannot be written") from fault
 
@@ -247,9 +229,14 @@ def names_of(paths: Sequence[str]) -> list[str]:
     return [f"{stem}-{earlier + 1}" if earlier else stem for stem, earlier in zip(stems, before)]
 
 
-def plant_at(plant: Plant, path: str, name: str, incarnation: Optional[int] = None, kind: type[Device] = Device) -> Member:
-    """A member of the profile in a file."""
-    device = device_of(path, incarnation, kind)
+def as_it_is(profile: str) -> str:
+    """A profile without a change."""
+    return profile
+
+
+def plant_at(plant: Plant, path: str, name: str, kind: type[Device], changed: Callable[[str], str] = as_it_is) -> Member:
+    """A member of the profile in a file, which may be changed."""
+    device = device_of(path, kind, changed)
     try:
         return plant.add(device, name)
     except ValueError as bad:
@@ -257,15 +244,68 @@ def plant_at(plant: Plant, path: str, name: str, incarnation: Optional[int] = No
         raise Failure(UNREAD, f"{path}: {bad}") from bad
 
 
-def connect(plant: Plant, profiles: Sequence[str], members: Sequence[Member]) -> None:
-    """Each scanner has a stream to each of its targets in the plant, and opens its slots, as a station does."""
-    for profile, scanner in zip(profiles, members):
-        slots = words_of(profile, "slot") if scanner.is_scanner else []
+def connect(plant: Plant, paths: Sequence[str], members: Sequence[Member]) -> None:
+    """Each scanner has a stream to each of its targets in the plant, and opens its slots in each life. A reset is as a restart."""
+    for path, member in zip(paths, members):
+        member.watch = functools.partial(restart_behind_reset, member)
+        slots = words_of(read_text(path), "slot") if member.is_scanner else []
         for node in dict.fromkeys(slot[1] for slot in slots):
             if node in plant.members:
-                plant.connect(scanner, plant.members[node])
-        for number in range(len(slots)):
-            scanner.start(number)
+                plant.connect(member, plant.members[node])
+        member.begin = functools.partial(start_slots, member, len(slots))
+        member.begin()
+
+
+def start_slots(scanner: Member, count: int) -> None:
+    """A scanner opens so many slots."""
+    for number in range(count):
+        scanner.start(number)
+
+
+def restart_behind_reset(member: Member, answer: Answer) -> None:
+    """A peer requests a reset: the next life begins, behind the reply."""
+    if any(isinstance(notice, ResetNotice) for notice in answer.notices):
+        member.plant.at(member.plant.now_ms, member.restart)
+
+
+# PLANT
+
+
+def play_plant(words: argparse.Namespace) -> int:
+    """The devices of a plant's file, with their faults and scripts, in virtual time."""
+    try:
+        said = read_plant(read_text(words.file))
+    except BadPlant as bad:
+        raise Failure(UNREAD, f"{words.file}: {bad}") from bad
+    folder = pathlib.Path(words.file).parent
+    records = words.record or (None if said.record is None else str(folder / said.record))
+    begin_report(words.report)
+    begin_records(records)
+    kind = RecordedDevice if records else Device
+    paths = [str(folder / device.profile) for device in said.devices]
+    with Plant() as plant:
+        members = [plant_at(plant, path, it.name, kind, functools.partial(of_the_plant, said, it)) for path, it in zip(paths, said.devices)]
+        for member, device in zip(members, said.devices):
+            member.port = port_of(words, device)
+        connect(plant, paths, members)
+        runs = [member.script(device.script) for member, device in zip(members, said.devices) if device.script]
+        plant.run_until((words.seconds or said.seconds or 60) * 1000)
+        return ended(members, runs, records, words.report)
+
+
+def of_the_plant(said: PlantFile, device: PlantDevice, profile: str) -> str:
+    """The profile of a device of a plant: at its address, with a description, the first of its incarnations and their ids."""
+    first = said.devices.index(device) * 255 // len(said.devices) + 1
+    profile = without_ids(with_incarnation(profile, first))
+    if device.address is not None:
+        profile = with_address(profile, device.address)
+    return with_description(profile, node_number(Device(profile).node), device.name)
+
+
+def port_of(words: argparse.Namespace, device: PlantDevice) -> Optional[PortFaults]:
+    """The faults on purpose of a device: what the file does not say is said by the options."""
+    lose, repeat, reorder, delay, seed = (device.faults.get(it, getattr(words, it)) for it in ("lose", "repeat", "reorder", "delay", "seed"))
+    return PortFaults(lose, repeat, reorder, delay, seed) if lose or repeat or reorder or delay else None
 
 
 # SERVE
@@ -312,10 +352,10 @@ class Served:
     """An adapter that is served: it prints what changes, takes calls from the standard input, and restarts on a reset."""
 
     def __init__(self, member: Member, profile: str, printer: _Printer) -> None:
-        self.member, self.profile, self.printer = member, profile, printer
+        self.member, self.printer = member, printer
         self.outputs = {int(words[1]): b"" for words in words_of(profile, "output")}
         self.calls, self.input = 0, b""
-        member.watch = self.watch
+        member.watch, member.begin = self.watch, self.begun
         self.look()
 
     def look(self) -> None:
@@ -340,16 +380,14 @@ class Served:
             if sentence is not None:
                 self.put(f"# {sentence}")
             if isinstance(notice, ResetNotice):
-                self.member.plant.at(self.member.plant.now_ms, self.restart)
+                self.member.plant.at(self.member.plant.now_ms, self.member.restart)
         if answer.asked:
             self.put(outcome_lines(0, answer)[0].partition(" ")[2])
 
-    def restart(self) -> None:
-        """The next life begins, with the next incarnation, and with ids that no life has given."""
-        incarnation = self.member.device.incarnation % 255 + 1
-        self.profile = with_unused_ids(self.profile, self.member.ids_left())
-        self.member.restart(Device(with_incarnation(self.profile, incarnation)))
-        self.put(f"life {self.member.life}, incarnation {incarnation}")
+    def begun(self) -> None:
+        """A further life has begun, of the next incarnation, behind a reset or by its script."""
+        self.member.former.clear()
+        self.put(f"life {self.member.life}, incarnation {self.member.device.incarnation}")
 
     def typed(self, sockets: Sockets) -> None:
         """Lines of the standard input are calls, as at a station."""
@@ -389,7 +427,8 @@ def serve(words: argparse.Namespace) -> int:
     incarnation = random.SystemRandom().randint(1, 255) if words.incarnation is None else words.incarnation
     begin_report(words.report)
     with Plant() as plant:
-        member = plant_at(plant, words.profile, names_of([words.profile])[0], incarnation)
+        own = functools.partial(with_incarnation, incarnation=incarnation)
+        member = plant_at(plant, words.profile, names_of([words.profile])[0], Device, own)
         if member.is_scanner:
             raise Failure(UNREAD, f"{words.profile} is the profile of the other kind of device")
         try:
@@ -461,7 +500,7 @@ def address(word: str) -> str:
 def parser() -> argparse.ArgumentParser:
     """The words that the command takes."""
     made = _Parser(prog="python3 -m eip", description=__doc__, formatter_class=argparse.RawDescriptionHelpFormatter, allow_abbrev=False)
-    tasks = made.add_subparsers(dest="task", required=True, metavar="test | serve")
+    tasks = made.add_subparsers(dest="task", required=True, metavar="test | plant | serve")
 
     def option(task: argparse.ArgumentParser, name: str, least: int, most: int, what: str, default: Optional[int], usage: str) -> None:
         help_text = usage if default is None else f"{usage} ({default})"
@@ -476,6 +515,15 @@ def parser() -> argparse.ArgumentParser:
     option(of_test, "--delay", 0, 60_000, "the milliseconds are", 0, "the greatest delay of a message")
     option(of_test, "--seed", 0, 2**64 - 1, "a seed is", 0, "draws other faults")
     of_test.add_argument("--records", metavar="FOLDER", help="writes the record of each device, a trace")
+    of_plant = tasks.add_parser("plant", help="plays the file of a plant in virtual time", allow_abbrev=False)
+    of_plant.set_defaults(call=play_plant)
+    of_plant.add_argument("file", metavar="FILE")
+    option(of_plant, "--seconds", 1, 10**9, "the seconds are", None, "how long it runs, in place of what the file says, or 60")
+    of_plant.add_argument("--record", metavar="FOLDER", help="writes the record of each life of each device, a trace")
+    for name, usage in ("--lose", "lost"), ("--repeat", "given twice"), ("--reorder", "overtaken by the next one"):
+        option(of_plant, name, 0, 100, "a percentage is", 0, f"how many percent of what arrives at a device are {usage}")
+    option(of_plant, "--delay", 0, 60_000, "the milliseconds are", 0, "the greatest delay of what arrives")
+    option(of_plant, "--seed", 0, 2**64 - 1, "a seed is", 0, "draws other faults")
     of_serve = tasks.add_parser("serve", help="plays an adapter at the sockets of this host", allow_abbrev=False)
     of_serve.set_defaults(call=serve)
     of_serve.add_argument("profile", metavar="PROFILE")
@@ -486,7 +534,7 @@ def parser() -> argparse.ArgumentParser:
     option(of_serve, "--seconds", 1, 10**9, "the seconds are", None, "how long it serves")
     option(of_serve, "--incarnation", 1, 255, "an incarnation is", None, "in place of a drawn one")
     of_serve.add_argument("--script", metavar="FILE", help="judges the adapter")
-    for of_task in of_test, of_serve:
+    for of_task in of_test, of_plant, of_serve:
         of_task.add_argument("--report", metavar="FILE", help="writes the verdicts in the form of JUnit")
     return made
 

@@ -20,11 +20,12 @@ import heapq
 import itertools
 import random
 from dataclasses import dataclass, field, replace
-from typing import TYPE_CHECKING, Any, Callable, Mapping, Optional, Protocol, TypeVar
+from typing import TYPE_CHECKING, Any, Callable, Mapping, Optional, Protocol, Sequence, TypeVar, Union
 
 from eip import Answer, Datagram, Delivery, Device, DeviceClosed, Notice, Refused, StreamNotice, TimedAnswer
-from plant_script import ScriptRun, read_script
+from plant_script import Line, ScriptRun, read_script
 from point_names import Names, labels
+from port_faults import PortFaults
 
 if TYPE_CHECKING:
     from typing_extensions import Concatenate, ParamSpec
@@ -107,6 +108,12 @@ class Member:
         object of the maker's own, or a message of a class 3 connection that is not executed. It knows its life."""
         self.watch: Optional[Callable[[Answer], object]] = None
         """Is called with each answer that `answers` takes, once it is sent. It may call the member, as to respond."""
+        self.former: list[Device] = []
+        """The devices of its earlier lives, which are closed."""
+        self.begin: Optional[Callable[[], object]] = None
+        """Is called as each further life begins, as to open the slots of a scanner."""
+        self.port: Optional[PortFaults] = None
+        """What becomes of the datagrams that arrive at the device, behind what the network does."""
         self._began_ms = plant.now_ms - device.now_ms
         self._wake_ms = -1
         self._streams: dict[int, Stream] = {}
@@ -160,8 +167,13 @@ class Member:
                 return self._perform(functools.partial(self.device.frame, number, data))
         raise ValueError(f"no stream of {peer} is open at {self}")
 
-    def restart(self, device: Device) -> None:
-        """The power fails and comes back: another device begins at this address, in the next life, and all streams break."""
+    def restart(self, device: Optional[Device] = None, same: bool = False) -> None:
+        """The power fails and comes back: another device begins at this address, in the next life, and all streams break.
+
+        Without a device it is the next one of its profile, or with `same` the same one again (`Device.next_life`).
+        """
+        if device is None:
+            device = self.device.next_life(same)
         if device.node != self.node:
             raise ValueError(f"{device.node} is not the address of {self}")
         if device is self.device:
@@ -173,9 +185,14 @@ class Member:
                 stream.cut()
         device.life = self.life + 1
         self.device.close()
+        self.former.append(self.device)
         self.device = device
         self._began_ms = self.plant.now_ms - device.now_ms
         self._plan_wake()
+        if self.port:
+            self.port.begin()
+        if self.begin:
+            self.begin()
 
     def unplug(self) -> None:
         """Pulls the cable: datagrams from and to this device are lost, and its streams wait."""
@@ -249,9 +266,9 @@ class Member:
         elif self.plant.outside and self.is_plugged:
             self.plant.outside(self, Datagram(node, (node,), data, self.life))
 
-    def script(self, text: str) -> ScriptRun:
+    def script(self, text: Union[str, Sequence[Line]]) -> ScriptRun:
         """Has the device do what the lines of a script say, from now on, and judges what they expect (`plant_script.py`)."""
-        run = ScriptRun(self, read_script(text))
+        run = ScriptRun(self, read_script(text) if isinstance(text, str) else list(text))
         self.script_run = run
         run.plan()
         return run
@@ -571,7 +588,16 @@ class Plant:
     def _arrive(self, member: Member, peer: str, data: bytes) -> None:
         if member.is_paused:
             self.at(member._resume_ms, self._arrive, member, peer, data)
+        elif member.is_plugged and member.port:
+            member.port.take(self, functools.partial(self._give, member, peer, data))
         elif member.is_plugged:
+            member.datagram(peer, data)
+
+    def _give(self, member: Member, peer: str, data: bytes) -> None:
+        """A datagram that has arrived goes on to the device, behind its pause."""
+        if member.is_paused:
+            self.at(member._resume_ms, self._give, member, peer, data)
+        else:
             member.datagram(peer, data)
 
     def close(self) -> None:

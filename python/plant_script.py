@@ -8,8 +8,7 @@
     plant.run_until(10000)
     assert island.script_run.has_passed, island.script_run.words()
 
-Times are milliseconds of the plant, by the clock of the device. Section 39 of docs/PROFILE.md has the lines. Of the calls of a plant's script `restart` is not
-here: `Member.restart` takes the device that begins.
+Times are milliseconds of the plant, by the clock of the device. Section 39 of docs/PROFILE.md has the lines.
 """
 
 from __future__ import annotations
@@ -24,12 +23,14 @@ from xml.sax.saxutils import escape
 from eip import Connection, ConnectionKind, Device, Mode, Refused, SlotState
 
 _MOST_CONNECTIONS = 64
-_MOST_LINES = 256
+MOST_LINES, LONG_SCRIPT = 256, "a script has at most 256 lines"
+BLANKS = " \t\n\f\r"
+"""What may stand around a line."""
 _LAST_MS = 4_294_967_295
 _LAST_REQUEST = 18_446_744_073_709_551_615
 _NO_POINT, _NO_SLOT = "no such point", "no such slot"
 _NO_TIME = "a time is a number of milliseconds up to 4294967295, and behind every it is not 0"
-_NO_CALL = "a call is write, read, mode, start, stop, cut, pause or send, and the words behind it; else it is expect, fail or pass"
+_NO_CALL = "a call is write, read, mode, start, stop, cut, pause, restart or send, and the words behind it; else it is expect, fail or pass"
 _NO_CONDITION = (
     "a condition is output POINT = HEX, image SLOT = HEX, slot N and idle, opening, established, timed-out or closing, "
     "or owner POINT and none, lost, run, idle or of NODE"
@@ -72,14 +73,14 @@ class BadScript(ValueError):
         self.line, self.wrong = line, wrong
 
 
-class _Bad(ValueError):
-    """What is wrong with a line."""
+class BadText(ValueError):
+    """What is wrong with a text of a script."""
 
 
-def _number(word: str, most: int, wrong: str) -> int:
-    """A decimal number without a needless zero in front."""
+def number_of(word: str, most: int, wrong: str) -> int:
+    """A decimal number without a needless zero in front, up to a greatest one. Raises BadText with what is wrong."""
     if not re.fullmatch("0|[1-9][0-9]{0,19}", word) or int(word) > most:
-        raise _Bad(wrong)
+        raise BadText(wrong)
     return int(word)
 
 
@@ -88,13 +89,14 @@ def _bytes(word: str, wrong: str) -> bytes:
     if word == "-":
         return b""
     if not re.fullmatch("([0-9a-fA-F]{2})+", word):
-        raise _Bad(wrong)
+        raise BadText(wrong)
     return bytes.fromhex(word)
 
 
-def _node(word: str, wrong: str) -> str:
+def node_of(word: str, wrong: str) -> str:
+    """An address: four numbers below 256 without needless zeros. Raises BadText with what is wrong."""
     if not _NODE.fullmatch(word) or any(int(part) > 255 for part in word.split(".")):
-        raise _Bad(wrong)
+        raise BadText(wrong)
     return word
 
 
@@ -187,15 +189,15 @@ def read_condition(text: str) -> Condition:
     """The condition of a text."""
     words = text.split(" ")
     if len(words) == 4 and words[0] in ("output", "image") and words[2] == "=":
-        return Condition(words[0], _number(words[1], _LAST_MS, _NO_CONDITION), _bytes(words[3], _NO_CONDITION))
+        return Condition(words[0], number_of(words[1], _LAST_MS, _NO_CONDITION), _bytes(words[3], _NO_CONDITION))
     if len(words) == 3 and words[0] == "slot" and words[2] in _STATES:
-        return Condition("slot", _number(words[1], _LAST_MS, _NO_CONDITION), words[2])
+        return Condition("slot", number_of(words[1], _LAST_MS, _NO_CONDITION), words[2])
     if len(words) == 3 and words[0] == "owner" and words[2] in ("none", "lost", *_MODES):
-        return Condition("owner", _number(words[1], _LAST_MS, _NO_CONDITION), words[2])
+        return Condition("owner", number_of(words[1], _LAST_MS, _NO_CONDITION), words[2])
     if len(words) == 4 and words[0] == "owner" and words[2] == "of":
-        node = _node(words[3], _NO_CONDITION)
-        return Condition("owner", _number(words[1], _LAST_MS, _NO_CONDITION), f"of {node}")
-    raise _Bad(_NO_CONDITION)
+        node = node_of(words[3], _NO_CONDITION)
+        return Condition("owner", number_of(words[1], _LAST_MS, _NO_CONDITION), f"of {node}")
+    raise BadText(_NO_CONDITION)
 
 
 # JUDGEMENTS
@@ -272,30 +274,32 @@ def _call_of(text: str) -> Call:
     words = text.split(" ")
     word, given = words[0], words[1:]
     if word == "write" and len(given) == 2:
-        point, data = _number(given[0], _LAST_MS, _NO_CALL), _bytes(given[1], _NO_CALL)
+        point, data = number_of(given[0], _LAST_MS, _NO_CALL), _bytes(given[1], _NO_CALL)
         return lambda member: member.write(point, data)
     if word == "read" and len(given) == 1:
-        point = _number(given[0], _LAST_MS, _NO_CALL)
+        point = number_of(given[0], _LAST_MS, _NO_CALL)
         return lambda member: member.read(point)
     if word == "mode" and given in (["run"], ["idle"]):
         run = given == ["run"]
         return lambda member: member.mode(run)
     if word in ("start", "stop", "pause") and len(given) == 1:
-        number = _number(given[0], _LAST_MS, _NO_CALL)
+        number = number_of(given[0], _LAST_MS, _NO_CALL)
         return lambda member: getattr(member, word)(number)
     if word == "explicit" and len(given) == 3:
-        target, request = _node(given[0], _NO_CALL), _bytes(given[2], _NO_CALL)
-        own = _number(given[1], _LAST_MS, _NO_CALL)
+        target, request = node_of(given[0], _NO_CALL), _bytes(given[2], _NO_CALL)
+        own = number_of(given[1], _LAST_MS, _NO_CALL)
         return lambda member: member.explicit(target, own, request)
     if word == "answer" and len(given) == 3 and re.fullmatch("[0-9a-fA-F]{2}", given[1]):
-        asked, reply = _number(given[0], _LAST_REQUEST, _NO_CALL), _bytes(given[2], _NO_CALL)
+        asked, reply = number_of(given[0], _LAST_REQUEST, _NO_CALL), _bytes(given[2], _NO_CALL)
         return lambda member: member.respond(asked, int(given[1], 16), reply)
     if text == "cut":
         return lambda member: member.cut()
+    if text in ("restart", "restart same"):
+        return lambda member: member.restart(same=text == "restart same")
     if word == "send" and len(given) == 2:
-        node, data = _node(given[0], _NO_CALL), _bytes(given[1], _NO_CALL)
+        node, data = node_of(given[0], _NO_CALL), _bytes(given[1], _NO_CALL)
         return lambda member: member.send(node, data)
-    raise _Bad(_NO_CALL)
+    raise BadText(_NO_CALL)
 
 
 def _act(line: Line, text: str) -> Line:
@@ -305,42 +309,42 @@ def _act(line: Line, text: str) -> Line:
         line.goal = "expect"
         if rest.startswith("within "):
             time, _, rest = rest[len("within "):].partition(" ")
-            line.within_ms = _number(time, _LAST_MS, _NO_TIME)
+            line.within_ms = number_of(time, _LAST_MS, _NO_TIME)
         line.condition = read_condition(rest)
     elif word == "fail":
         if not 0 < len(rest.encode()) <= 200 or any(ord(it) < 32 or ord(it) == 127 for it in rest):
-            raise _Bad("behind fail is a text of 1 to 200 bytes without control characters")
+            raise BadText("behind fail is a text of 1 to 200 bytes without control characters")
         line.goal, line.text = "fail", rest
     elif word == "pass":
         if rest:
-            raise _Bad(_NO_CALL)
+            raise BadText(_NO_CALL)
         line.goal = "pass"
     else:
         line.call = _call_of(text)
     return line
 
 
-def _line(number: int, text: str) -> Line:
-    """The line of a text."""
+def script_line(number: int, text: str) -> Line:
+    """The line of a text, with its number. Raises BadText."""
     word, _, rest = text.partition(" ")
     every, ms = False, 0
     if word in ("at", "every"):
         time, _, rest = rest.partition(" ")
-        every, ms = word == "every", _number(time, _LAST_MS, _NO_TIME)
+        every, ms = word == "every", number_of(time, _LAST_MS, _NO_TIME)
         if every and ms == 0:
-            raise _Bad(_NO_TIME)
+            raise BadText(_NO_TIME)
         word, _, behind = rest.partition(" ")
         guarded = word == "when"
         rest = behind if guarded else rest
     elif word == "when":
         guarded = True
     else:
-        raise _Bad("a line of a script begins with at, every or when")
+        raise BadText("a line of a script begins with at, every or when")
     if not guarded:
         return _act(Line(number, every, ms, None, "call"), rest)
     condition, mark, act = rest.partition(" do ")
     if not mark:
-        raise _Bad("behind when is a condition, and do, and what is done")
+        raise BadText("behind when is a condition, and do, and what is done")
     return _act(Line(number, every, ms, read_condition(condition), "call"), act)
 
 
@@ -348,14 +352,15 @@ def read_script(text: str) -> list[Line]:
     """The lines of a script. Empty lines and comments do not count: a line's number is that of the lines of the script."""
     lines: list[Line] = []
     for number, given in enumerate(text.split("\n"), 1):
-        said = given.strip()
+        said = given.strip(BLANKS)
         if not said or said.startswith("#"):
             continue
         try:
-            if len(lines) == _MOST_LINES:
-                raise _Bad("a script has at most 256 lines")
-            lines.append(_line(len(lines) + 1, said))
-        except _Bad as bad:
+            line = script_line(len(lines) + 1, said)
+            if len(lines) == MOST_LINES:
+                raise BadText(LONG_SCRIPT)
+            lines.append(line)
+        except BadText as bad:
             raise BadScript(number, str(bad)) from None
     return lines
 

@@ -21,9 +21,12 @@ import eip
 import eip_command
 import fault_words
 import plant
+import plant_file
 import plant_script
 import plant_sockets
 import point_names
+import port_faults
+import profile_lines
 import trace_lines
 from eip import (
     Answer, AnswerKept, AskedRequest, BadLine, BadProfile, Connection, ConnectionKind, ConnectionNotice, Datagram, Delivery, Device,
@@ -33,8 +36,10 @@ from eip import (
 )
 from plant import Faults, Plant
 from plant_script import BadScript, Judgement, judged, read_script, report_text
+from plant_file import BadPlant, PlantDevice, read_plant
 from plant_sockets import PortRefused, Sockets
 from point_names import BadName, NameFault, Names, labelled, read_names
+from port_faults import PortFaults, drawn
 from trace_lines import RecordedDevice, outcome_lines
 
 TOP = pathlib.Path(__file__).resolve().parent.parent
@@ -881,6 +886,23 @@ class Scripts(unittest.TestCase):
         self.assertEqual((answers.said, answers.has_passed), ([(160, "refused 2 not allowed now"), (200, "passed 3")], True))
         self.assertEqual(scanner.script_run.said, [(100, "refused 2 not allowed now"), (200, "refused 3 no such slot")])
 
+    def test_a_script_restarts_its_device(self):
+        """The island sends its datagram of 1000 before the call: the slot times out 160 ms later, and tries again behind another 3000."""
+        bench, island, scanner, run = self.bench("", 7000)
+        lives = island.script("""
+            at 1000 restart
+            at 1000 expect owner 150 none
+            at 4159 expect within 1 owner 150 of 192.168.1.20
+            at 6000 restart same
+        """)
+        begun = []
+        island.begin = lambda: begun.append((bench.now_ms, island.life, island.device.incarnation))
+        run()
+        self.assertEqual(lives.said, [(1000, "met 2 owner 150 none after 0"),
+                                      (4160, "met 3 owner 150 of 192.168.1.20 after 1 # 192.168.1.20 (controller)")])
+        self.assertEqual(begun, [(1000, 2, 17), (6000, 3, 17)])
+        self.assertEqual([(it.life, it.incarnation, it.is_closed) for it in island.former], [(1, 16, True), (2, 17, True)])
+
     def test_bad_lines_have_their_sentences(self):
         for text, line, wrong in [
             ("at soon pass", 1, "a time is a number of milliseconds up to 4294967295, and behind every it is not 0"),
@@ -890,7 +912,7 @@ class Scripts(unittest.TestCase):
             ("at 1 fail ", 1, "behind fail is a text of 1 to 200 bytes without control characters"),
             ("at 1 pass\nat 1 expect slot 0 open", 2, plant_script._NO_CONDITION),
             ("at 1 expect within x slot 0 idle", 1, plant_script._NO_TIME),
-            ("at 1 restart", 1, plant_script._NO_CALL),
+            ("at 1 restart other", 1, plant_script._NO_CALL),
             ("at 1 answer 1 0 -", 1, plant_script._NO_CALL),
             ("at 1 explicit 1.2.3 4 0e03", 1, plant_script._NO_CALL),
         ]:
@@ -961,12 +983,12 @@ class Members(unittest.TestCase):
     def test_each_call_of_a_device_is_one_of_a_member_or_of_its_plant(self):
         of_the_plant = {
             "stream": "connect", "tick": "run_until", "run_until": "run_until", "close": "close", "is_closed": "close",
-            "from_file": "add", "incarnation": "add", "node": "add",
+            "from_file": "add", "incarnation": "add", "node": "add", "next_life": "restart",
         }  # fmt: skip
         calls = {name for name in dir(Device) if not name.startswith("_")}
         self.assertEqual(calls - {name for name in dir(plant.Member) if not name.startswith("_")}, calls & set(of_the_plant))
         for call in of_the_plant.values():
-            self.assertTrue(hasattr(Plant, call))
+            self.assertTrue(hasattr(Plant, call) or hasattr(plant.Member, call))
         self.assertEqual(plant.Member.respond.__doc__, Device.respond.__doc__)
 
     def test_states_are_those_of_the_present_time(self):
@@ -1028,6 +1050,24 @@ class Members(unittest.TestCase):
         self.assertEqual(sorted(set(sent)), [1, 2])
         self.assertEqual({it.answer.life for it in adapter.answers}, {1, 2})
         self.assertEqual(adapter.write(100, bytes(4)), Answer(Verdict.DONE, life=2))
+
+    def test_a_next_life_gives_no_id_again(self):
+        """Of ids 100 to 102 two are given, and of the further block of 5000 none: one is left for the next life, and no block."""
+        profile = "# \xe9\n" + ADAPTER.replace("heartbeat", "ids 100 3\nheartbeat").replace("adapter 16", "adapter 255")
+        with RecordedDevice(profile) as device:
+            device.request(OWNER, OPEN)
+            device.request(OWNER, bytes.fromhex("4e02200624010a0e0100341278563412040020042497" "2c962c64"))
+            self.assertEqual(device.request(OWNER, OPEN).notices[0].o_t_id, 101)
+            device.ids(5000, 5)
+            self.assertEqual(device.ids_left(), 6)
+            with device.next_life() as again, device.next_life(same=True) as same:
+                self.assertEqual((again.incarnation, again.ids_left(), same.incarnation, same.ids_left()), (1, 1, 255, 3))
+                self.assertEqual(again.request(OWNER, OPEN).notices[0].o_t_id, 102)
+                self.assertEqual((again.life, same.trace()), (1, profile))
+        with self.assertRaises(DeviceClosed):
+            device.next_life()
+        with Device(ADAPTER) as device, device.next_life() as again:
+            self.assertEqual(again.request(OWNER, OPEN).notices[0].o_t_id, 0x11000001)
 
     def test_a_record_answers_a_request_of_its_life(self):
         with RecordedDevice(self.OWN) as device:
@@ -1148,6 +1188,117 @@ class Sentences(unittest.TestCase):
             (UnansweredNotice(NoticeKind.NO_REPLY_ENCAP, 4, 3), "explicit request 4 is not answered: encapsulation status 0x0003 (incorrect data)"),
         ]:
             self.assertEqual(fault_words.unanswered_words(notice), text)
+
+
+class PortsWithFaults(unittest.TestCase):
+    """Section 30. The parts of the words 0 to 9 of seed 7, modulo 100: 43 40 54 99 66 37 94 94 65 53 of the first, 34 24 93 30 66 58 50 18
+    48 37 of the second, 28 75 12 72 6 74 37 65 74 90 of the third."""
+
+    def given(self, numbers=range(10), **rates):
+        """When each datagram is given, of those that arrive at 0, 10, 20, .. or all at 0."""
+        plant, given, port = Plant(), [], PortFaults(seed=7, **rates)
+        for number in numbers:
+            plant.at(10 * number, port.take, plant, lambda number=number: given.append((number, plant.now_ms)))
+        plant.run_until(5000)
+        self.assertEqual(port.waiting, [])
+        return given
+
+    def test_the_words_are_those_of_splitmix64(self):
+        self.assertEqual([drawn(1234567, number) for number in range(3)], [6457827717110365317, 3203168211198807973, 9817491932198370423])
+        self.assertEqual(drawn(0, 0), 0xE220A8397B1DCDAF)
+
+    def test_a_seed_draws_what_is_lost_repeated_and_overtaken(self):
+        self.assertEqual(self.given(), [(number, 10 * number) for number in range(10)])
+        self.assertEqual([number for number, _ in self.given(lose=41)], [0, 2, 3, 4, 6, 7, 8, 9])
+        self.assertEqual([number for number, _ in self.given(repeat=30)], [0, 1, 1, 2, 3, 4, 5, 6, 7, 7, 8, 9])
+        # (0, 2 and 4 are given behind the next one)
+        order = [(1, 10), (0, 10), (3, 30), (2, 30), (5, 50), (4, 50), (6, 60), (7, 70), (8, 80), (9, 90)]
+        self.assertEqual(self.given(reorder=29), order)
+        # (nothing comes behind the last one: it waits for a second)
+        self.assertEqual(self.given(range(5), reorder=29)[-1], (4, 1040))
+
+    def test_a_delay_is_drawn(self):
+        """The fourth parts are 25547 and 1100: modulo 31 they are 3 and 15. What is lost is not delayed."""
+        self.assertEqual(self.given(range(2), delay_ms=30), [(0, 3), (1, 25)])
+        self.assertEqual(self.given(range(1), delay_ms=30, lose=100), [])
+        self.assertEqual(self.given(range(1), delay_ms=30, repeat=100), [(0, 0), (0, 3)])
+
+    def test_sixty_three_wait_and_a_life_loses_them(self):
+        """Where more than 62 wait, the next one goes on at once."""
+        plant, given = Plant(), []
+        port = PortFaults(reorder=0, delay_ms=60_000, seed=7)
+        for number in range(70):
+            port.take(plant, lambda number=number: given.append(number))
+        self.assertEqual((given, len(port.waiting)), (list(range(63, 70)), 63))
+        port.begin()
+        plant.run_until(60_000)
+        self.assertEqual((given, port.arrived), (list(range(63, 70)), 0))
+
+    def test_a_member_of_a_plant_has_a_port(self):
+        """Every datagram to the island is lost there, and what it sends arrives; in its next life its port loses on. A pause holds what waited."""
+        with Plant() as bench:
+            island, scanner = bench.add(Device(ADAPTER), "island"), bench.add(Device(SCANNER), "scanner")
+            bench.connect(scanner, island)
+            scanner.start(0)
+            island.port = PortFaults(lose=100)
+            bench.run_until(95)
+            # (at 0, 10, .. 90)
+            self.assertEqual((sum(island.deliveries.values()), sum(scanner.deliveries.values()), island.port.arrived), (0, 10, 10))
+            island.restart()
+            self.assertEqual(island.port.arrived, 0)
+            island.port = PortFaults(delay_ms=20, seed=1)
+            island.send(island.node, b"")
+            bench.run_until(95)
+            held = island.port.waiting[0]
+            island.pause(500)
+            bench.run_until(594)
+            self.assertEqual((held.is_over, sum(island.deliveries.values())), (True, 0))
+            bench.run_until(595)
+            self.assertEqual(island.deliveries[Delivery.MALFORMED], 1)
+
+
+class PlantFiles(unittest.TestCase):
+    """Section 34."""
+
+    def test_the_plants_of_the_examples_read(self):
+        stop = read_plant((TOP / "examples/plant/stop.plant").read_text())
+        self.assertEqual([(it.name, it.profile, len(it.script)) for it in stop.devices],
+                         [("controller", "../station_scanner.profile", 3), ("island", "../station_adapter.profile", 7)])
+        self.assertEqual((stop.seconds, stop.record, stop.devices[1].script[4].words()), (13, None, "5: expect output 150 = 00000000"))
+        line = read_plant((TOP / "examples/plant/line.plant").read_text())
+        self.assertEqual((len(line.devices), line.devices[2].faults, line.devices[9].address), (10, {"lose": 5, "seed": 7}, "127.0.1.13"))
+
+    def test_what_a_file_says_is_read(self):
+        said = read_plant("\tdevice a-1 p\r\n  repeat 100\n# lose 1\n\nreorder 0\ndevice b q 10.0.0.1\ndelay 60000\n at 5 fail a  b\nrecord my records\nseconds 1000000000")
+        self.assertEqual((said.devices[0], said.devices[1].faults), (PlantDevice("a-1", "p", None, {"repeat": 100, "reorder": 0}, []), {"delay": 60000}))
+        self.assertEqual((said.devices[1].script[0].text, said.record, said.seconds), ("a  b", "my records", 10**9))
+
+    def test_bad_lines_have_the_sentences_of_the_station(self):
+        source = (TOP / "crates/plant_rim/specs/File/Sentences.antt").read_text()
+        sentences = dict(re.findall(r'fault\.(\w+) = codes "(.*)"', source))
+        sentences["NoDevice"] = re.findall(r'sentence_of_context other = codes "(.*)"', source)[0]
+        del sentences["NotText"]
+        d, script = "device a p\n", "at 1 pass\n" * 256
+        bad = [
+            ("lost 5", 1, "UnknownWord"), ("device a! p", 1, "BadName"), (f"device {'a' * 65} p", 1, "BadName"), ("device a", 1, "NoProfile"),
+            ("device a p 10.0.0", 1, "BadAddress"), ("device a p 10.0.0.1 x", 1, "BadAddress"), (d + "lose 101", 2, "BadPercent"), (d + "reorder 05", 2, "BadPercent"),
+            (d + "delay 60001", 2, "BadDelay"), (d + "seed 18446744073709551616", 2, "BadSeed"), ("seconds 0", 1, "BadSeconds"), ("seconds 1000000001", 1, "BadSeconds"),
+            ("record", 1, "NoFolder"), (d + "every 0 cut", 2, "BadTime"), (d + "at 1 restart all", 2, "NoCall"), (d + "at 1 expect x", 2, "BadCondition"),
+            (d + "when slot 0 idle cut", 2, "NoDo"), (d + "at 1 fail", 2, "BadText"), ("lose 5", 1, "BeforeDevice"), ("at 1 pass", 1, "BeforeDevice"),
+            ("".join(f"device d{it} p\n" for it in range(128)), 128, "TooManyDevices"), (d + "device a q", 2, "SameName"),
+            ("device a p 10.0.0.1\ndevice b p 10.0.0.1", 2, "SameAddress"), (d + script + "at 1 pass", 258, "LongScript"), ("lose 101", 1, "BadPercent"),
+            (d + "lose 1\nlose 2", 3, "SaidTwice"), (d + "seconds 1\nseconds 1", 3, "SaidTwice"), (d + "record a\nrecord a", 3, "SaidTwice"), ("", 1, "NoDevice"),
+            ("#\n", 2, "NoDevice"),
+        ]
+        for text, line, fault in bad:
+            with self.assertRaises(BadPlant) as caught:
+                read_plant(text)
+            self.assertEqual((caught.exception.line, caught.exception.wrong), (line, sentences[fault]), text[:40])
+        # (that of a line of a script alone)
+        self.assertEqual(set(sentences) - {fault for _, _, fault in bad}, {"NoScriptLine"})
+        with self.assertRaises(BadScript) as caught:
+            read_script("\n" + d)
+        self.assertEqual((caught.exception.line, caught.exception.wrong), (2, sentences["NoScriptLine"]))
 
 
 class PointNames(unittest.TestCase):
@@ -1444,7 +1595,7 @@ class Commands(unittest.TestCase):
         time = "a time is a number of milliseconds up to 4294967295, and behind every it is not 0"
         nowhere = str(self.folder / "no" / "report.xml")
         for status, said, words in [
-            (2, "the following arguments are required: test | serve", []),
+            (2, "the following arguments are required: test | plant | serve", []),
             (2, f"{self.ADAPTER_FILE}: a script is missing behind the profile; - is none", ["test", self.ADAPTER_FILE]),
             (2, "--ms 0 is no such value: the milliseconds are 1 to 4294967295", ["test", self.ADAPTER_FILE, passes, "--ms", "0"]),
             (2, "--tcp x is no such value: a port is 1 to 65535", ["serve", self.ADAPTER_FILE, "--tcp", "x"]),
@@ -1484,6 +1635,77 @@ class Commands(unittest.TestCase):
         self.assertEqual([len(re.findall(rf"^[0-9]+ {word}$", trace, re.M)) for word in ("idle", "duplicate")], [1, 6])
         self.assertEqual(self.performed(*words, "--records", "/dev/null")[::2], (6, ["eip: the record cannot be written"]))
 
+    def test_the_plant_of_a_machine_stop_in_virtual_time(self):
+        """The same file as at a station. The controller is silent from 5000 to 6000, and tries again 3000 ms behind its time-out at 5160."""
+        report = str(self.folder / "report.xml")
+        status, out, err = self.performed("plant", "examples/plant/stop.plant", "--report", report)
+        self.assertEqual((status, err), (0, ["eip: island: its script has passed: 7 lines judge, 0 failed, 0 skipped"]))
+        self.assertEqual(out, [
+            "island at 4000 met 1 owner 150 run after 0", "island at 4000 met 2 output 150 = 11223344 after 0", "island at 5160 met 3 owner 150 lost after 160",
+            "island at 5160 met 4 output 150 = 00000000 after 160", "island at 5160 met 5 output 150 = 00000000 after 0",
+            "island at 9000 met 6 owner 150 run after 3000", "island at 12500 passed 7",
+        ])
+        self.assertIn('name="3: expect within 320 owner 150 lost" time="0.160"/>', pathlib.Path(report).read_text())
+
+    def test_the_devices_of_a_plant_have_their_addresses_faults_lives_and_records(self):
+        """The controller loses its power at 1000: its stream is back a second later, and it is idle then. The deaf island takes nothing."""
+        self.file("a.profile", ADAPTER.replace("heartbeat", "ids 900 5\nheartbeat"))
+        self.file("s.profile", SCANNER.replace("192.168.1.10", "10.0.0.5") + SCANNER.split("\n")[1].replace("192.168.1.10", "10.0.0.6") + "\n")
+        path = self.file("a.plant", """
+            device controller s.profile
+              at 500 mode run
+              at 1000 restart
+            device island a.profile 10.0.0.5
+              at 900 expect owner 150 run
+              at 1999 expect owner 150 lost
+              at 2001 expect owner 150 idle
+            device deaf a.profile 10.0.0.6
+              lose 100
+              at 5 expect owner 150 of 192.168.1.20
+              every 500 expect output 150 = 00000000
+            seconds 3
+            record traces
+        """)
+        status, out, err = self.performed("plant", path)
+        # (3 lines and one of the island's and the deaf one's scripts, six of its `every`; the deaf one still has the first life's connection)
+        self.assertEqual((status, len(out), len(err)), (0, 3 + 1 + 6 + 1, 2), err)
+        self.assertIn("controller at 2000 # slot 1 is not opened: general status 0x01 (connection failure), extended status 0x0100 "
+                      "(connection in use or duplicate Forward_Open)", out)
+        traces = {it.name: it.read_text() for it in (self.folder / "traces").iterdir()}
+        self.assertEqual(sorted(traces), ["controller.1.trace", "controller.2.trace", "deaf.1.trace", "island.1.trace"])
+        # (three devices have 85 incarnations each)
+        self.assertEqual([traces[it].split("\n")[0].split()[:3] for it in sorted(traces)], [
+            ["scanner", "1", "192.168.1.20"], ["scanner", "2", "192.168.1.20"], ["adapter", "171", "10.0.0.6"], ["adapter", "86", "10.0.0.5"]])
+        self.assertNotIn("ids ", traces["island.1.trace"])
+        # (10.0.0.5 as a number, and the name)
+        self.assertIn("\ndescribe 167772165 69736c616e64 44818 100 15 000000000000 120\n", traces["island.1.trace"])
+        self.assertNotIn("datagram", traces["deaf.1.trace"])
+        # an option is for the devices of which the file says nothing else
+        words = ["plant", path, "--lose", "100", "--seconds", "1", "--record", str(self.folder / "others")]
+        self.assertEqual(self.performed(*words)[0], 8)
+        self.assertNotIn("datagram", (self.folder / "others/controller.1.trace").read_text())
+
+    def test_a_bad_plant_has_a_sentence(self):
+        bad, empty, same = self.file("bad.plant", "device a b\n lose x\n"), self.file("empty.plant", ""), self.file("same.plant", "device a a.profile\ndevice b a.profile\n")
+        missing, profile = self.file("missing.plant", "device a no.profile\n"), self.file("a.profile", ADAPTER)
+        for status, said, words in [
+            (3, f"{bad}: line 2: a percentage is a number from 0 to 100", [bad]), (3, f"{empty}: line 1: a plant has at least one device", [empty]),
+            (3, f"{profile}: two devices have the address 192.168.1.10", [same]), (3, f"{self.folder}/no.profile cannot be read", [missing]),
+            (2, "--seconds 0 is no such value: the seconds are 1 to 1000000000", [same, "--seconds", "0"]),
+        ]:
+            self.assertEqual(self.performed("plant", *words), (status, [], [f"eip: {said}"]), words)
+
+    def test_a_reset_is_as_a_restart(self):
+        described = ADAPTER.replace("heartbeat", "describe 7 50756d70 44818 100 15 02a1b2c3d4e5 120\nheartbeat")
+        path = self.file("described.profile", described)
+        with Plant() as bench:
+            member = bench.add(Device(described))
+            eip_command.connect(bench, [path], [member])
+            member.request(OWNER, bytes.fromhex("05022001240100"))
+            self.assertEqual(member.life, 1)
+            bench.run_until(0)
+            self.assertEqual((member.life, member.device.incarnation), (2, 17))
+
     def test_what_it_prints_has_names_and_sentences(self):
         """Slot 1 wants the input 101, which is not there: it is refused at 0, and again 3 s later with the same sentence."""
         island = self.file("island.profile", "# name 150 Valves\n# name x\n" + ADAPTER)
@@ -1508,13 +1730,21 @@ class Commands(unittest.TestCase):
         self.assertEqual([ms for ms, _ in said], [0, 1, 5, 6, 8, 9, 10])
         self.assertEqual(said[0][1], fault_words.refusal_words(refused))
 
-    def test_another_incarnation_leaves_the_rest(self):
-        self.assertEqual(eip_command.with_incarnation("# a\n" + ADAPTER, 99), "# a\n" + ADAPTER.replace("adapter 16", "adapter 99"))
+    def test_another_incarnation_or_address_leaves_the_rest(self):
+        self.assertEqual(profile_lines.with_incarnation("# a\n\n" + ADAPTER, 99), "# a\n\n" + ADAPTER.replace("adapter 16", "adapter 99"))
+        self.assertEqual(profile_lines.with_address("# a\n" + SCANNER, "10.0.0.1"), "# a\n" + SCANNER.replace("192.168.1.20", "10.0.0.1", 1))
+        self.assertEqual(profile_lines.without_ids(ADAPTER.replace("heartbeat", "ids 1 2\nheartbeat")), ADAPTER)
+        described = profile_lines.with_description(ADAPTER.replace("heartbeat", "ids 1 2\nheartbeat"), 7, "é" * 17)
+        expected = f"describe 7 {'c3a9' * 16} 44818 100 15 000000000000 120\nids 1 2\nheartbeat"
+        self.assertEqual(described, ADAPTER.replace("heartbeat", expected))
+        for profile in described, SCANNER:
+            self.assertEqual(profile_lines.with_description(profile, 8, "b"), profile)
+        Device(profile_lines.with_description(ADAPTER, 0xC0A8010A, "a")).close()
 
     def test_the_ids_that_are_left_are_of_the_next_life(self):
         """Those that the profile states, but for the first one; behind the last id of all there is none."""
         def behind(ids, left):
-            return eip_command.with_unused_ids(f"adapter 16\nids {ids}\nheartbeat 152 153\n", left).split("\n")[1]
+            return profile_lines.with_unused_ids(f"adapter 16\nids {ids}\nheartbeat 152 153\n", left).split("\n")[1]
 
         self.assertEqual(behind("100 50", 20), "ids 130 20")
         self.assertEqual(behind("100 50", 50), "ids 101 49")
@@ -1522,7 +1752,7 @@ class Commands(unittest.TestCase):
         self.assertEqual(behind("100 0", 0), "ids 100 0")
         self.assertEqual(behind("4294967290 6", 4), "ids 4294967292 4")
         self.assertEqual(behind("4294967290 6", 0), "ids 4294967290 0")
-        self.assertEqual(eip_command.with_unused_ids(ADAPTER, 3), ADAPTER)
+        self.assertEqual(profile_lines.with_unused_ids(ADAPTER, 3), ADAPTER)
 
     def test_what_is_served_is_printed_and_a_reset_begins_the_next_life(self):
         plant, lines = Plant(), []
@@ -1566,7 +1796,9 @@ class Commands(unittest.TestCase):
 
 class Documents(unittest.TestCase):
     def test_every_public_name_is_typed_and_documented(self):
-        for module in eip, eip_command, fault_words, plant, plant_script, plant_sockets, point_names, trace_lines:
+        for module in (
+            eip, eip_command, fault_words, plant, plant_file, plant_script, plant_sockets, point_names, port_faults, profile_lines, trace_lines,
+        ):
             for name, it in vars(module).items():
                 if name.startswith("_") or getattr(it, "__module__", None) != module.__name__ or not callable(it):
                     continue

@@ -158,9 +158,10 @@ def events_of(trace: str) -> list[str]:
 class RecordedDevice(Device):
     """A device that writes down each event with its outcome. One thread at a time uses it."""
 
-    def __init__(self, profile: str, room: int = 4096) -> None:
+    def __init__(self, profile: Union[str, bytes], room: int = 4096) -> None:
         super().__init__(profile, room)
-        self._lines = profile.split("\n")[:-1]
+        text = profile if isinstance(profile, str) else profile.decode()
+        self._lines = text.split("\n")[:-1]
         self._events = 0
 
     def trace(self) -> str:

@@ -123,7 +123,7 @@ def versions(bench, version, files, debian_files, packages, deb, wheel):
     wrong = [name for name, holds in said.items() if not holds]
     bench.judge(not wrong, f"{len(said)} places say version {version}", f"others are {wrong}")
     same = inside.get("eip.libs/libeip.so") == files[f"lib/libeip.so.{version}"]
-    bench.judge(same and {"eip.py", "eip_command.py", "fault_words.py", "plant.py", "plant_script.py", "plant_sockets.py", "point_names.py", "trace_lines.py"} <= inside.keys(), "the wheel has its modules and the library of the package", str(sorted(inside)))
+    bench.judge(same and {"eip.py", "eip_command.py", "fault_words.py", "plant.py", "plant_script.py", "plant_file.py", "plant_sockets.py", "point_names.py", "port_faults.py", "profile_lines.py", "trace_lines.py"} <= inside.keys(), "the wheel has its modules and the library of the package", str(sorted(inside)))
 
 
 def contents(bench, files, control):
