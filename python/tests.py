@@ -922,6 +922,13 @@ class Scripts(unittest.TestCase):
         with self.assertRaises(BadScript):
             read_script("at 1 pass\n" * 257)
 
+    def test_blanks_around_a_line_are_those_of_a_station(self):
+        """A space, a tab, CR and FF are blanks; a no-break space is of the text, and VT begins no line."""
+        for read in read_script, lambda text: read_plant(f"device a p\n{text}").devices[0].script:
+            self.assertEqual(read("\f\t at 1 fail a\u00a0 \r\n")[0].text, "a\u00a0")
+            with self.assertRaises((BadScript, BadPlant)):
+                read("\x0bat 1 pass")
+
     def test_a_judgement_is_that_of_the_moment(self):
         self.assertEqual([judged(True, 2500, 2500), judged(False, 2500, 2500), judged(False, 2501, 2500), judged(True, 2501, 2500)],
                          [Judgement.MET, Judgement.WAITING, Judgement.FAILED, Judgement.FAILED])
@@ -948,7 +955,7 @@ class Scripts(unittest.TestCase):
         sys.path.append(str(TOP / "tools" / "peers"))
         from virtual_adapter import VirtualAdapter
         owner = "scanner 1 192.168.1.21 0 7 1000 1000\nslot 192.168.1.11 exclusive - 150 100 4 4 10000 10000 2 p2p - -\n"
-        watcher = "scanner 1 192.168.1.22 0 8 1000 1000\nslot 192.168.1.11 input - 152 100 0 4 10000 10000 2 p2p - -\n"
+        watcher = "# name slot 0 Lamps\nscanner 1 192.168.1.22 0 8 1000 1000\nslot 192.168.1.11 input - 152 100 0 4 10000 10000 2 p2p - -\n"
         for keeps, failure in (False, None), (True, "image 0 = 00000000, but 11223344"):
             with Plant() as bench:
                 target = bench.add(VirtualAdapter("192.168.1.11", keeps), "target")
@@ -961,6 +968,11 @@ class Scripts(unittest.TestCase):
                 bench.run_until(7500)
                 self.assertTrue(first.has_passed, first.words())
                 self.assertEqual([line.failure for line in last.lines], [None, failure])
+                judges = "2 lines judge, {} failed, 0 skipped"
+                self.assertEqual(last.words().split("\n"), [
+                    f"watcher: script line 2: expect image 0 = 00000000: {failure} # slot 0 (Lamps)",
+                    f"watcher: its script has not passed: {judges.format(1)}",
+                ] if keeps else [f"watcher: its script has passed: {judges.format(0)}"])
 
 
 class Members(unittest.TestCase):
@@ -1684,6 +1696,12 @@ class Commands(unittest.TestCase):
         words = ["plant", path, "--lose", "100", "--seconds", "1", "--record", str(self.folder / "others")]
         self.assertEqual(self.performed(*words)[0], 8)
         self.assertNotIn("datagram", (self.folder / "others/controller.1.trace").read_text())
+
+    def test_what_a_plant_says_of_a_device_goes_before_each_option(self):
+        words = types.SimpleNamespace(lose=1, repeat=0, reorder=3, delay=4, seed=9)
+        own = lambda **said: eip_command.port_of(words, PlantDevice("a", "p", None, said))
+        self.assertEqual((own(lose=5, reorder=0), own(seed=2)), (PortFaults(5, 0, 0, 4, 9), PortFaults(1, 0, 3, 4, 2)))
+        self.assertIsNone(own(lose=0, reorder=0, delay=0))
 
     def test_a_bad_plant_has_a_sentence(self):
         bad, empty, same = self.file("bad.plant", "device a b\n lose x\n"), self.file("empty.plant", ""), self.file("same.plant", "device a a.profile\ndevice b a.profile\n")

@@ -5,13 +5,14 @@ import types
 
 import small_adapter
 from eip import Answer, Datagram, Delivery, Frame, Verdict
+from point_names import Names
 
 
 class VirtualAdapter:
     """An adapter at an address, which has what a plant needs of a device. With `keep_output` it has a bug on purpose."""
 
     def __init__(self, node, keep_output=False):
-        self.node, self.now_ms, self.life, self.is_closed = node, 0, 1, False
+        self.node, self.now_ms, self.life, self.is_closed, self.is_scanner, self.names = node, 0, 1, False, False, Names()
         args = argparse.Namespace(output=150, out_len=4, input=100, in_len=4, peer_udp=2222, echo=True, keep_output=keep_output)
         self.adapter = adapter = small_adapter.Adapter.__new__(small_adapter.Adapter)
         adapter.args, adapter.connection, adapter.next_id, adapter.sessions = args, None, 0x40000001, 0

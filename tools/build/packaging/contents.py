@@ -118,6 +118,8 @@ def wheel(of):
     """The modules of python/ and the library, as pip installs them."""
     modules = [file for file in sorted((of.top / "python").glob("*.py")) if not is_program(file)]
     made = {file.name: File(file.read_bytes()) for file in modules}
+    # (where it is installed, mypy takes no type hints of a module that is a file, but those of a package of stubs: PEP 561)
+    made.update({f"{file.stem}-stubs/__init__.pyi": File(file.read_bytes()) for file in modules})
     made["eip.libs/libeip.so"] = executable(of.built.shared)
     info = f"eip-{of.version}.dist-info"
     made[f"{info}/METADATA"] = text(f"Metadata-Version: 2.1\nName: eip\nVersion: {of.version}\nSummary: {SUMMARY}\nRequires-Python: >=3.9\n")

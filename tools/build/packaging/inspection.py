@@ -123,7 +123,9 @@ def versions(bench, version, files, debian_files, packages, deb, wheel):
     wrong = [name for name, holds in said.items() if not holds]
     bench.judge(not wrong, f"{len(said)} places say version {version}", f"others are {wrong}")
     same = inside.get("eip.libs/libeip.so") == files[f"lib/libeip.so.{version}"]
-    bench.judge(same and {"eip.py", "eip_command.py", "fault_words.py", "plant.py", "plant_script.py", "plant_file.py", "plant_sockets.py", "point_names.py", "port_faults.py", "profile_lines.py", "trace_lines.py"} <= inside.keys(), "the wheel has its modules and the library of the package", str(sorted(inside)))
+    modules = ("eip", "eip_command", "fault_words", "plant", "plant_file", "plant_script", "plant_sockets", "point_names", "port_faults", "profile_lines", "trace_lines")
+    typed = all(inside.get(f"{it}.py", b"") and inside.get(f"{it}-stubs/__init__.pyi") == inside[f"{it}.py"] for it in modules)
+    bench.judge(same and typed, "the wheel has its modules, their type hints and the library of the package", str(sorted(inside)))
 
 
 def contents(bench, files, control):
