@@ -848,6 +848,8 @@ class Device:
         with self._lock:
             self._is_open = False
             self._finalizer()
+            # (a closed device may be kept for its record)
+            self._room = ctypes.create_string_buffer(1)
 
     @property
     def is_closed(self) -> bool:

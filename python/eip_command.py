@@ -252,6 +252,10 @@ def connect(plant: Plant, paths: Sequence[str], members: Sequence[Member]) -> No
         for node in dict.fromkeys(slot[1] for slot in slots):
             if node in plant.members:
                 plant.connect(member, plant.members[node])
+        for number, slot in enumerate(slots):
+            if slot[1] not in plant.members:
+                text = f"slot {number} is not opened: no device of the plant has the address {slot[1]}"
+                print(f"eip: {member.name}: {text}{member.labels(text)}", file=sys.stderr)
         member.begin = functools.partial(start_slots, member, len(slots))
         member.begin()
 

@@ -1694,8 +1694,19 @@ class Commands(unittest.TestCase):
         self.assertNotIn("datagram", traces["deaf.1.trace"])
         # an option is for the devices of which the file says nothing else
         words = ["plant", path, "--lose", "100", "--seconds", "1", "--record", str(self.folder / "others")]
-        self.assertEqual(self.performed(*words)[0], 8)
+        status, out, _ = self.performed(*words)
+        self.assertEqual((status, [line for line in out if line.startswith("deaf at ")][2:]), (8, ["deaf at 1000 met 2 output 150 = 00000000 after 0"]))
         self.assertNotIn("datagram", (self.folder / "others/controller.1.trace").read_text())
+
+    def test_a_slot_whose_target_is_not_there_is_named(self):
+        path = self.file("s.profile", "# name slot 1 Saw\n" + SCANNER + SCANNER.split("\n")[1].replace("1.10", "1.11") + "\n")
+        with Plant() as bench, contextlib.redirect_stderr(io.StringIO()) as err:
+            members = [bench.add(Device.from_file(path), "controller"), bench.add(Device(ADAPTER), "island")]
+            eip_command.connect(bench, [path, self.file("a.profile", ADAPTER)], members)
+            bench.run_until(0)
+            self.assertEqual((members[0].slot(0).state, members[0].slot(1).state), (SlotState.ESTABLISHED, SlotState.IDLE))
+        said = "eip: controller: slot 1 is not opened: no device of the plant has the address 192.168.1.11 # slot 1 (Saw)\n"
+        self.assertEqual(err.getvalue(), said)
 
     def test_what_a_plant_says_of_a_device_goes_before_each_option(self):
         words = types.SimpleNamespace(lose=1, repeat=0, reorder=3, delay=4, seed=9)
@@ -1803,7 +1814,7 @@ class Commands(unittest.TestCase):
         member.request(OWNER, bytes.fromhex("05022001240100"))
         plant.run_until(3)
         self.assertEqual(lines, ["at 0 output 150 00000000", "at 0 note reset 0", "at 0 life 2, incarnation 1"])
-        self.assertEqual((member.life, member.device.incarnation, member.now_ms), (2, 1, 3))
+        self.assertEqual((member.life, member.device.incarnation, member.now_ms, member.former), (2, 1, 3, []))
         # a life that gave none of its three ids leaves two of them
         member, _ = served(described.replace("1.10", "1.11").replace("heartbeat", "ids 700 3\nheartbeat"))
         member.request(OWNER, bytes.fromhex("05022001240100"))
