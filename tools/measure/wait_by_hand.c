@@ -1,19 +1,30 @@
 /* An adapter written by hand, whose wait a station's is compared with: epoll, and a timer among its descriptors.
  *
- * wait_by_hand ADDRESS: it serves one originator at TCP port 44818 and UDP port 2222. It registers a session, takes the first
- * Forward_Open, sends its input at the interval of the connection, keeps each output that comes, and answers ListServices.
- * It tests no more than that work needs. */
+ * wait_by_hand ADDRESS [lines] [thread|ahead|sleep]: it serves one originator at TCP port 44818 and UDP port 2222. It registers a session,
+ * takes the first Forward_Open, sends its input at the interval of the connection, keeps each output that comes, and answers
+ * ListServices. With `lines` it prints each new value of the output; lines of one wake are written at once. It tests no more than that
+ * work needs.
+ *
+ * The other words have it wait by no more than the kit declares, which is epoll in whole milliseconds and a thread that sleeps: `thread`
+ * sets that thread for each wait, as a station does; `ahead` lets it ring again behind the last interval, unless it is set to something
+ * else; `sleep` has no such thread, and sleeps for the rest of the last millisecond, in which it hears nothing. */
 #define _GNU_SOURCE
 
 #include <arpa/inet.h>
+#include <linux/futex.h>
 #include <netinet/tcp.h>
+#include <pthread.h>
+#include <stdatomic.h>
 #include <stdint.h>
 #include <stdio.h>
 #include <stdlib.h>
 #include <string.h>
 #include <sys/epoll.h>
+#include <sys/eventfd.h>
 #include <sys/socket.h>
+#include <sys/syscall.h>
 #include <sys/timerfd.h>
+#include <time.h>
 #include <unistd.h>
 
 enum { TCP = 44818, UDP = 2222, HEADER = 24, LIST_SERVICES = 4, REGISTER_SESSION = 0x65, SEND_RR_DATA = 0x6F };
@@ -24,6 +35,13 @@ static struct sockaddr_in peer;
 static uint32_t o_t = 0x10000001, t_o, sequence;
 static uint16_t count;
 static uint8_t input[DATA], output[DATA];
+static enum { TIMER, THREAD, AHEAD, SLEEP } ends_by;
+static uint64_t due_ns, interval_ns;
+static _Atomic uint64_t alarm_ns;
+static _Atomic uint32_t settings;
+static int rung, has_lines;
+static char lines[1 << 16];
+static size_t of_lines;
 
 static void fail(const char *what)
 {
@@ -59,12 +77,79 @@ static void produce(void)
     sendto(udp, packet, sizeof packet, 0, (struct sockaddr *)&peer, sizeof peer);
 }
 
+static uint64_t now_ns(void)
+{
+    struct timespec now;
+    clock_gettime(CLOCK_MONOTONIC, &now);
+    return (uint64_t)now.tv_sec * 1000000000u + (uint64_t)now.tv_nsec;
+}
+
 static void begin(uint32_t interval_us)
 {
     struct itimerspec each;
     each.it_interval.tv_sec = each.it_value.tv_sec = interval_us / 1000000;
     each.it_interval.tv_nsec = each.it_value.tv_nsec = interval_us % 1000000 * 1000L;
-    timerfd_settime(timer, 0, &each, NULL);
+    interval_ns = interval_us * 1000ull;
+    due_ns = now_ns() + interval_ns;
+    if (ends_by == TIMER)
+        timerfd_settime(timer, 0, &each, NULL);
+}
+
+/* Waits until the settings are others, at most so long. */
+static void park(uint32_t seen, uint64_t most_ns)
+{
+    struct timespec most = {(time_t)(most_ns / 1000000000), (long)(most_ns % 1000000000)};
+    syscall(SYS_futex, &settings, FUTEX_WAIT_PRIVATE, seen, most_ns ? &most : NULL, NULL, 0);
+}
+
+/* The thread that rings: it waits for a setting, or until it is due. */
+static void *ring(void *unused)
+{
+    for (;;) {
+        uint32_t seen = settings;
+        uint64_t at = alarm_ns, now = now_ns(), one = 1;
+        if (!at)
+            park(seen, 0);
+        else if (now < at)
+            park(seen, at - now);
+        else if (atomic_compare_exchange_strong(&alarm_ns, &at, ends_by == AHEAD ? at + interval_ns : 0) && write(rung, &one, sizeof one) < 0)
+            fail("write");
+    }
+    return unused;
+}
+
+/* Sets the alarm to the end of a wait, unless it rings then or at most 20 us later. */
+static void set_alarm(uint64_t now)
+{
+    uint64_t at = alarm_ns;
+    if (at > now && at <= due_ns + 20000)
+        return;
+    alarm_ns = due_ns;
+    settings++;
+    syscall(SYS_futex, &settings, FUTEX_WAKE_PRIVATE, 1, NULL, NULL, 0);
+}
+
+/* The milliseconds of the next wait, which ends at the next due time by what there is. */
+static int wait_ms(void)
+{
+    uint64_t now = now_ns(), left = due_ns > now ? due_ns - now : 0;
+    struct timespec rest = {0, (long)left};
+    if (ends_by == TIMER || !interval_ns)
+        return -1;
+    if (ends_by != SLEEP && left)
+        set_alarm(now);
+    if (ends_by != SLEEP || left >= 1000000)
+        return (int)((left + (ends_by == SLEEP ? 0 : 999999)) / 1000000);
+    nanosleep(&rest, NULL);
+    return 0;
+}
+
+static void produce_due(void)
+{
+    while (ends_by != TIMER && interval_ns && now_ns() >= due_ns) {
+        produce();
+        due_ns += interval_ns;
+    }
 }
 
 /* The reply to a Forward_Open, in place of the request: 26 bytes behind the head of the items. */
@@ -130,6 +215,30 @@ static void read_stream(int stream)
         exit(0);
 }
 
+/* The line of a new output, which is written at the end of the wake. */
+static void note_output(void)
+{
+    static const char digits[] = "0123456789abcdef", head[] = "output 150 ";
+    char *at = lines + of_lines;
+    if (of_lines + sizeof head + 2 * DATA > sizeof lines)
+        return;
+    memcpy(at, head, sizeof head - 1);
+    at += sizeof head - 1;
+    for (int i = 0; i < DATA; i++) {
+        *at++ = digits[output[i] >> 4];
+        *at++ = digits[output[i] & 15];
+    }
+    *at++ = '\n';
+    of_lines = (size_t)(at - lines);
+}
+
+static void write_lines(void)
+{
+    if (of_lines && write(1, lines, of_lines) < 0)
+        fail("write");
+    of_lines = 0;
+}
+
 static void read_datagrams(void)
 {
     uint8_t packet[2048];
@@ -137,24 +246,52 @@ static void read_datagrams(void)
     socklen_t size = sizeof from;
     ssize_t got;
     while ((got = recvfrom(udp, packet, sizeof packet, 0, (struct sockaddr *)&from, &size)) >= 0)
-        if (got >= OUTPUT + 2 && u32_at(packet + 6) == o_t)
+        if (got >= OUTPUT + 2 && u32_at(packet + 6) == o_t) {
+            int is_new = memcmp(output, packet + 24, DATA);
             memcpy(output, packet + 24, DATA);
+            if (is_new && has_lines)
+                note_output();
+        }
 }
 
 static void read_timer(void)
 {
     uint64_t passed;
-    if (read(timer, &passed, sizeof passed) == sizeof passed)
+    if (read(ends_by == TIMER ? timer : rung, &passed, sizeof passed) == sizeof passed && ends_by == TIMER)
         for (; passed; passed--)
             produce();
+}
+
+/* What the words behind the address say. */
+static void obey(int words, char **word)
+{
+    for (int at = 2; at < words; at++) {
+        has_lines |= !strcmp(word[at], "lines");
+        ends_by = !strcmp(word[at], "thread") ? THREAD : !strcmp(word[at], "ahead") ? AHEAD : !strcmp(word[at], "sleep") ? SLEEP : ends_by;
+    }
+}
+
+/* What ends a wait beside the sockets. */
+static void watch_time(void)
+{
+    pthread_t thread;
+    if (ends_by == TIMER) {
+        watch(timer);
+        return;
+    }
+    rung = eventfd(0, EFD_NONBLOCK);
+    watch(rung);
+    if (ends_by != SLEEP && pthread_create(&thread, NULL, ring, NULL))
+        fail("a thread");
 }
 
 int main(int words, char **word)
 {
     struct sockaddr_in own = {.sin_family = AF_INET};
-    int one = 1;
-    if (words != 2)
+    int one = 1, room = 1 << 22;
+    if (words < 2)
         return 2;
+    obey(words, word);
     own.sin_addr.s_addr = inet_addr(word[1]);
     listener = socket(AF_INET, SOCK_STREAM | SOCK_NONBLOCK, 0);
     udp = socket(AF_INET, SOCK_DGRAM | SOCK_NONBLOCK, 0);
@@ -165,17 +302,18 @@ int main(int words, char **word)
     if (bind(listener, (struct sockaddr *)&own, sizeof own) || listen(listener, 8))
         fail("TCP");
     own.sin_port = htons(UDP);
+    setsockopt(udp, SOL_SOCKET, SO_RCVBUF, &room, sizeof room);
     if (bind(udp, (struct sockaddr *)&own, sizeof own))
         fail("UDP");
     watch(listener);
     watch(udp);
-    watch(timer);
+    watch_time();
     for (;;) {
         struct epoll_event events[16];
-        int found = epoll_wait(poller, events, 16, -1);
+        int found = epoll_wait(poller, events, 16, wait_ms());
         for (int i = 0; i < found; i++) {
             int fd = events[i].data.fd;
-            if (fd == timer)
+            if (fd == timer || fd == rung)
                 read_timer();
             else if (fd == udp)
                 read_datagrams();
@@ -184,5 +322,7 @@ int main(int words, char **word)
             else
                 read_stream(fd);
         }
+        produce_due();
+        write_lines();
     }
 }

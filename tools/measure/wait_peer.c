@@ -1,11 +1,14 @@
 /* Measures how soon an adapter answers while it sends, how late it sends, and what a datagram that wakes it costs it.
  *
- * wait_peer TARGET OWN INTERVAL_US PID [COUNT]: from the address OWN it registers a session at TARGET, opens a connection
- * whose target sends at this interval, and prints, of COUNT (1,000 if it is left out):
- * the time of a reply to ListServices over TCP, asked at phases that move over the interval; how late datagrams come behind
- * the times of the earliest one; the processor time of the process PID, all its threads, of a datagram that it sends, and of
- * one that it receives, whose data are those of the last one. The target has an output 150 and an input 100 of 4 bytes, and a
- * configuration 151 of none. */
+ * wait_peer TARGET OWN INTERVAL_US PID [COUNT [WORK]]: from the address OWN it registers a session at TARGET, opens a connection
+ * whose target sends at this interval, and prints, of COUNT (1,000 if it is left out), by WORK:
+ * `waits`, if it is left out: the time of a reply to ListServices over TCP, asked at phases that move over the interval; how late
+ * datagrams come behind the times of the earliest one; and what `costs` prints.
+ * `costs`: the processor time of the process PID, all its threads, of a datagram that it sends, and of one that it receives, whose
+ * data are those of the last one; and how often its threads wait, of each.
+ * `changes`: the same, but each datagram has new data.
+ * `burst`: nothing; it sends COUNT datagrams without a pause, and waits until PID waits.
+ * The target has an output 150 and an input 100 of 4 bytes, and a configuration 151 of none. */
 #define _GNU_SOURCE
 
 #include <arpa/inet.h>
@@ -26,6 +29,12 @@ static struct sockaddr_in target;
 static uint32_t o_t, sequence;
 static uint16_t counted;
 static double sample[MOST];
+static int has_new_data;
+
+/* What all threads of a process have used and done. */
+struct used {
+    double us, waits;
+};
 
 static void fail(const char *what)
 {
@@ -58,25 +67,40 @@ static void report(const char *what, int count)
     printf("%s: median %.0f, 99 of 100 %.0f, most %.0f us\n", what, sample[count / 2], sample[count * 99 / 100], sample[count - 1]);
 }
 
-/* The processor time of all threads of a process, in microseconds. */
-static double used_us(const char *pid)
+/* Adds what one thread has used, and how often it waited. */
+static void add_task(struct used *all, const char *pid, const char *task)
+{
+    char path[300], line[200];
+    double number;
+    FILE *file;
+    snprintf(path, sizeof path, "/proc/%s/task/%s/schedstat", pid, task);
+    if ((file = fopen(path, "r"))) {
+        if (fscanf(file, "%lf", &number) == 1)
+            all->us += number / 1e3;
+        fclose(file);
+    }
+    snprintf(path, sizeof path, "/proc/%s/task/%s/status", pid, task);
+    if (!(file = fopen(path, "r")))
+        return;
+    while (fgets(line, sizeof line, file))
+        if (sscanf(line, "voluntary_ctxt_switches: %lf", &number) == 1)
+            all->waits += number;
+    fclose(file);
+}
+
+/* What all threads of a process have used. */
+static struct used used_by(const char *pid)
 {
     char path[300];
-    double all = 0, one;
+    struct used all = {0, 0};
     struct dirent *task;
     DIR *tasks;
     snprintf(path, sizeof path, "/proc/%s/task", pid);
     if (!(tasks = opendir(path)))
         fail(path);
-    while ((task = readdir(tasks))) {
-        FILE *file;
-        snprintf(path, sizeof path, "/proc/%s/task/%s/schedstat", pid, task->d_name);
-        if (task->d_name[0] == '.' || !(file = fopen(path, "r")))
-            continue;
-        if (fscanf(file, "%lf", &one) == 1)
-            all += one / 1e3;
-        fclose(file);
-    }
+    while ((task = readdir(tasks)))
+        if (task->d_name[0] != '.')
+            add_task(&all, pid, task->d_name);
     closedir(tasks);
     return all;
 }
@@ -132,6 +156,8 @@ static void send_output(void)
     packet[18] = (uint8_t)++counted;
     packet[19] = (uint8_t)(counted >> 8);
     packet[20] = 1;
+    if (has_new_data)
+        put(packet + 24, sequence);
     sendto(udp, packet, sizeof packet, 0, (struct sockaddr *)&target, sizeof target);
 }
 
@@ -192,11 +218,10 @@ static void measure_lateness(int count, double interval_us)
 
 static void measure_costs(int count, double interval_us, const char *pid)
 {
-    double length_us = count * 1000.0, from, idle, busy, due;
-    from = used_us(pid);
+    double length_us = count * 1000.0, due;
+    struct used from = used_by(pid), idle, busy;
     sleep_us(length_us);
-    idle = used_us(pid) - from;
-    from = used_us(pid);
+    idle = used_by(pid);
     due = now_us();
     for (int i = 0; i < count; i++) {
         send_output();
@@ -204,9 +229,26 @@ static void measure_costs(int count, double interval_us, const char *pid)
         if (due > now_us())
             sleep_us(due - now_us());
     }
-    busy = used_us(pid) - from;
+    busy = used_by(pid);
+    idle = (struct used){idle.us - from.us, idle.waits - from.waits};
+    busy = (struct used){busy.us - from.us - 2 * idle.us, busy.waits - from.waits - 2 * idle.waits};
     printf("processor time: %.1f us for each datagram that it sends, %.1f us for each that comes, one in 1,000 us\n",
-        idle * interval_us / length_us, (busy - idle) / count);
+        idle.us * interval_us / length_us, busy.us / count);
+    printf("waits of its threads: %.1f for each datagram that it sends, %.1f for each that comes\n",
+        idle.waits * interval_us / length_us, busy.waits / count);
+}
+
+/* Sends datagrams without a pause, and waits until the process has used nothing for a while. */
+static void send_burst(int count, const char *pid)
+{
+    double before, after = used_by(pid).us;
+    for (int i = 0; i < count; i++)
+        send_output();
+    do {
+        before = after;
+        sleep_us(200000);
+        after = used_by(pid).us;
+    } while (after > before + 2000);
 }
 
 static void connect_from(const char *own)
@@ -230,9 +272,10 @@ static void connect_from(const char *own)
 
 int main(int words, char **word)
 {
-    int count = words == 6 ? atoi(word[5]) : 1000;
+    int count = words >= 6 ? atoi(word[5]) : 1000;
+    const char *work = words == 7 ? word[6] : "waits";
     double interval_us;
-    if (words < 5 || words > 6 || count < 1 || count > MOST)
+    if (words < 5 || words > 7 || count < 1 || count > MOST)
         return 2;
     interval_us = atof(word[3]);
     target.sin_family = AF_INET;
@@ -240,8 +283,14 @@ int main(int words, char **word)
     target.sin_port = htons(TCP);
     connect_from(word[2]);
     open_connection((uint32_t)interval_us);
-    measure_replies(count, interval_us);
-    measure_lateness(count, interval_us);
-    measure_costs(count, interval_us, word[4]);
+    has_new_data = !strcmp(work, "changes");
+    if (!strcmp(work, "waits")) {
+        measure_replies(count, interval_us);
+        measure_lateness(count, interval_us);
+    }
+    if (strcmp(work, "burst"))
+        measure_costs(count, interval_us, word[4]);
+    else
+        send_burst(count, word[4]);
     return 0;
 }
