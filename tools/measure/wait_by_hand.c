@@ -1,9 +1,9 @@
 /* An adapter written by hand, whose wait a station's is compared with: epoll, and a timer among its descriptors.
  *
- * wait_by_hand ADDRESS [lines] [thread|ahead|sleep]: it serves one originator at TCP port 44818 and UDP port 2222. It registers a session,
+ * wait_by_hand ADDRESS [lines [apart]] [thread|ahead|sleep]: it serves one originator at TCP port 44818 and UDP port 2222. It registers a session,
  * takes the first Forward_Open, sends its input at the interval of the connection, keeps each output that comes, and answers
- * ListServices. With `lines` it prints each new value of the output; lines of one wake are written at once. It tests no more than that
- * work needs.
+ * ListServices. With `lines` it prints each new value of the output; lines of one wake are written at once, and with `apart` by a thread
+ * that pauses for 250 us behind each write, so that no reader holds the adapter up. It tests no more than that work needs.
  *
  * The other words have it wait by no more than the kit declares, which is epoll in whole milliseconds and a thread that sleeps: `thread`
  * sets that thread for each wait, as a station does; `ahead` lets it ring again behind the last interval, unless it is set to something
@@ -39,7 +39,11 @@ static enum { TIMER, THREAD, AHEAD, SLEEP } ends_by;
 static uint64_t due_ns, interval_ns;
 static _Atomic uint64_t alarm_ns;
 static _Atomic uint32_t settings;
-static int rung, has_lines;
+static int rung, has_lines, is_apart;
+static pthread_mutex_t lock = PTHREAD_MUTEX_INITIALIZER;
+static pthread_cond_t came = PTHREAD_COND_INITIALIZER;
+static char handed[1 << 16];
+static size_t of_handed;
 static char lines[1 << 16];
 static size_t of_lines;
 
@@ -232,10 +236,40 @@ static void note_output(void)
     of_lines = (size_t)(at - lines);
 }
 
+/* The thread that writes what it is handed. */
+static void *write_handed(void *unused)
+{
+    static char own[sizeof handed];
+    struct timespec pause = {0, 250000};
+    for (;;) {
+        size_t size;
+        pthread_mutex_lock(&lock);
+        while (!of_handed)
+            pthread_cond_wait(&came, &lock);
+        size = of_handed;
+        memcpy(own, handed, size);
+        of_handed = 0;
+        pthread_mutex_unlock(&lock);
+        if (write(1, own, size) < 0)
+            fail("write");
+        nanosleep(&pause, NULL);
+    }
+    return unused;
+}
+
 static void write_lines(void)
 {
-    if (of_lines && write(1, lines, of_lines) < 0)
+    if (of_lines && !is_apart && write(1, lines, of_lines) < 0)
         fail("write");
+    if (of_lines && is_apart) {
+        pthread_mutex_lock(&lock);
+        if (of_handed + of_lines <= sizeof handed) {
+            memcpy(handed + of_handed, lines, of_lines);
+            of_handed += of_lines;
+        }
+        pthread_cond_signal(&came);
+        pthread_mutex_unlock(&lock);
+    }
     of_lines = 0;
 }
 
@@ -267,6 +301,7 @@ static void obey(int words, char **word)
 {
     for (int at = 2; at < words; at++) {
         has_lines |= !strcmp(word[at], "lines");
+        is_apart |= !strcmp(word[at], "apart");
         ends_by = !strcmp(word[at], "thread") ? THREAD : !strcmp(word[at], "ahead") ? AHEAD : !strcmp(word[at], "sleep") ? SLEEP : ends_by;
     }
 }
@@ -275,6 +310,8 @@ static void obey(int words, char **word)
 static void watch_time(void)
 {
     pthread_t thread;
+    if (is_apart && pthread_create(&thread, NULL, write_handed, NULL))
+        fail("a thread");
     if (ends_by == TIMER) {
         watch(timer);
         return;
